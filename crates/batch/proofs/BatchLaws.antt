@@ -2,14 +2,14 @@
 use mathlib.Core.Path.{◌≡◌, refl, sym, ap, ap₂, ◌∙◌, subst}
 use mathlib.Core.Logic.{⊎_elim}
 use mathlib.Core.Bool.{Bool, true, false, cond, ◌&&◌, and-eq-true_iff}
-use mathlib.Core.Option.{Option, none, some}
+use mathlib.Core.Option.{none, some}
 use mathlib.Core.List.Memᴰ
 use mathlib.Core.List.{List, [], ◌∷◌, ◌++◌, map, Memᴰ}
 use Prim.Native.Nat.{ℕ, zero, suc, ◌+◌, ◌-◌, ◌≤◌}
 use native.Mathlib.Omega.{arith}
 use native.Mathlib.Numerals.{sub-one}
 use lib.ListN.{length, take, drop, get_or, take-append-drop, length-append}
-use lib.Seq.{take-suc, take_all, length-take-le}
+use lib.Seq.{take-suc, take_all}
 use lib.Dec.{leb}
 use borrow.Author.Tests.{leb-true}
 use Rattle.model.specs.Order.{Text}
@@ -21,26 +21,25 @@ use Rattle.model.specs.Ways.{wrote, said, limited}
 use Rattle.model.proofs.WayClaims.{Each, Has, first_events}
 use Rattle.model.proofs.Cases.{never}
 use Rattle.model.proofs.RuleLaws.{rule-append}
-use Rattle.model.proofs.LimitLaws.{fits-within}
+use Rattle.model.proofs.LimitLaws.{permitted, fits-within}
 use Rattle.model.proofs.WayLaws.{upto-list, batch-answer}
 use Rattle.replies.specs.Questions as questions
 use Rattle.replies.specs.Answers as answers
 use Rattle.replies.specs.Questions.{Asked, ensure}
+use Rattle.replies.proofs.RefusalLaws.{passed-on}
 use Rattle.replies.proofs.RangeLaws.{in-range, out_of_range}
 use Rattle.replies.specs.Capacities.{dossier_capacity}
 use Rattle.replies.specs.Answers.{Answer, gives, refuses, refuses_at, reply_of, laid, answer, Outcome, outcome}
-use Rattle.replies.specs.Replies.{replied, replies, batch_replied, batch_replies}
-use Rattle.replies.specs.declared.reply.Reply as reply
-use Rattle.replies.specs.declared.reply.Reply.TheVariants as variant
-use Rattle.replies.specs.declared.reply.BatchReply.{BatchReply}
+use Rattle.replies.specs.Replies.{refusal_number, replied, replies, batch_replied, batch_replies, at_first}
+use Rattle.replies.specs.declared.reply.Refusal.{Refusal}
+use Rattle.replies.specs.declared.reply.BatchRefusal.{BatchRefusal}
 use Rattle.ontology.specs.Table.{EventType, Table}
 use Rattle.ontology.specs.TableLayout.{table_of}
-use Rattle.ontology.specs.code.TypeIndex.{TypeIs}
+use Rattle.ontology.specs.code.TypeIndex.{TypeIs, TableSaid, TableSays}
+use Rattle.ontology.proofs.TypeIndexLaws.{table-refused, table_got}
 use Rattle.ontology.specs.declared.types.TypeIndex.{TypeIndex}
-use Rattle.ontology.specs.declared.tables.TableRead.{TableRead}
-use Rattle.ontology.proofs.TypeIndexLaws.{TableGot}
 use Rattle.event.specs.Event.{Event, type_view, view}
-use Rattle.event.specs.EventLayout.{narrow}
+use Rattle.event.specs.EventLayout.{Counts, narrow, event_of}
 use Rattle.event.specs.EventQuestions.{Typed, event_asked}
 use Rattle.event.proofs.EventQuestionLaws.{EventFits, event-accepted, event-fits}
 use Rattle.event.specs.Agreement.{match_sets}
@@ -56,11 +55,14 @@ use Rattle.ways.proofs.RuleQuestionLaws.{has-length}
 use Rattle.ways.proofs.CallLaws.{returned-gives, rule-bytes, Colliding, rule_of, bytes_of, checked-one, asked, same-match, one-fits, two-joined, byte-calls}
 use Rattle.batch.specs.Batch.{AskedAt, refused_at, accepted, ◌>>=◌, ◌>>◌, at, events_asked, events_agree, agree_with, batch_of, batch_dossier, together}
 use Rattle.batch.specs.Batch.{batch_asked, batch_given, Rooms, have_room, batch_answer, batch_call}
-use Rattle.batch.specs.code.BatchIndex.{BatchIs, BatchReads, events_agreed, events_together, FirstTyped, RefusalIs, combined_given, combined_answer}
-use Rattle.batch.specs.code.BatchIndex.{Agreed, FirstOf, MeasuredFirst, DoneWithin, CombinedFirst, at_first}
-use Rattle.batch.specs.declared.asked.EventsAsked.{EventsAsked}
+use Rattle.batch.specs.code.BatchIndex.{BatchIs, BatchStands, BatchReads, events_agreed, events_together, FirstName, FirstNamed, FirstTyped}
+use Rattle.batch.specs.code.BatchIndex.{combined_given, combined_answer, Agreed, FirstOf, MeasuredFirst, DoneWithin, CombinedFirst}
 use Rattle.batch.specs.declared.frame.BatchIndex.{BatchIndex}
-use Rattle.batch.proofs.AskedLaws.{same-type, apart_then, going_on, first-accepted, first-refused, IsEvent}
+use Rattle.batch.proofs.AskedLaws.{same-type, apart_then, going_on, first-accepted, first-refused, IsEvent, AnswersEvents}
+use Rattle.std.specs.Option.{ok_or}
+use Rattle.std.specs.Result.{IsErrAnd}
+use Rattle.std.specs.Prelude.{Some, None, Result, Ok, Err}
+use Rattle.std.specs.Prelude as std
 
 -- ---- events of which questions 3 to 7 are answered yes
 
@@ -233,8 +235,8 @@ record Adds
   addable : AddableUnder limits table sofar m s t ps
   joined : (out : List ℕ) → HasRoom out → combine_call limits table sofar addable.added.lone out ≡ outcome (combined_answer limits ts es) out
   measured :
-      (r : reply.Reply) (p : List ℕ) →
-      ((z : ℕ) → r ≡ variant.Done z → Measured (combined addable.added.both.left addable.added.both.right).snapshots p) →
+      (r : Result ℕ Refusal) (p : List ℕ) →
+      ((z : ℕ) → r ≡ Ok z → Measured (combined addable.added.both.left addable.added.both.right).snapshots p) →
       MeasuredFirst limits ts es r p
 
 -- ---- combining such events
@@ -393,7 +395,7 @@ module _
       combined-is (get_or ss 0 [] ∷ []) (get_or ss 0 [], Memᴰ.head refl) (one_each (get_or ss 0 []) h)))
 
   check-one :
-      (n : ℕ) (s out after : List ℕ) (r : reply.Reply) → n ≡ 1 → 1 ≤ length ss → HasRoom out → s ≡ get_or ss 0 [] →
+      (n : ℕ) (s out after : List ℕ) (r : Result ℕ Refusal) → n ≡ 1 → 1 ≤ length ss → HasRoom out → s ≡ get_or ss 0 [] →
       replies r after ≡ check_call table s out → replies r after ≡ outcome (combined_answer limits ts (take n ss)) out
   check-one n s out after r o l h q e =
       e ∙ (ap (λ (y : List ℕ). check_call table y out) q
@@ -439,21 +441,20 @@ module _
       go false e = never (cc)
 
   first-measured :
-      (es : List (List ℕ)) (r : reply.Reply) (m : List ℕ) → Has es → Each S es → Measured (rules es).snapshots m → MeasuredFirst limits ts es r m
-  unfolding MeasuredFirst
-  first-measured es (variant.Done z) m n h w = λ d e. subst (λ (xs : List Snapshot). Measured xs m) (sym (given-snapshots es d n h e)) w
-  first-measured es (variant.Refused z) m n h w = tt
+      (es : List (List ℕ)) (r : Result ℕ Refusal) (m : List ℕ) → Has es → Each S es → Measured (rules es).snapshots m →
+      MeasuredFirst limits ts es r m
+  first-measured es (Ok z) m n h w = λ d e. subst (λ (xs : List Snapshot). Measured xs m) (sym (given-snapshots es d n h e)) w
+  first-measured es (Err q) m n h w = tt
 
   rule-measured :
       (es : List (List ℕ)) (z : ℕ) (m : List ℕ) → Has es → Each S es → fits limits (type_view t) (rules es) ≡ true →
-      MeasuredFirst limits ts es (variant.Done z) m → Measured (rules es).snapshots m
-  unfolding MeasuredFirst
+      MeasuredFirst limits ts es (Ok z) m → Measured (rules es).snapshots m
   rule-measured [] z m n h f w = absurd (Memᴰ.not-nil n.1)
   rule-measured (s ∷ es) z m n h f w = w (ruled_dossier (s ∷ es)) (rw (all-together s es h, f))
 
   -- the first event alone
   one-measured :
-      (s : List ℕ) (x : TypeIndex) (ps : List ℕ) (r : reply.Reply) (m : List ℕ) → 1 ≤ length ss → s ≡ get_or ss 0 [] →
+      (s : List ℕ) (x : TypeIndex) (ps : List ℕ) (r : Result ℕ Refusal) (m : List ℕ) → 1 ≤ length ss → s ≡ get_or ss 0 [] →
       FirstTyped table ts ss x ps →
       ((e : KnownEvent table s x) → Measured (event_dossier e.event).snapshots m) → MeasuredFirst limits ts (take 1 ss) r m
   one-measured s x ps r m l q f w =
@@ -467,7 +468,7 @@ module _
 
   -- the n-th event s, and the dossier `sofar` of those before it, of which the code has the measures m
   module _ (n size : ℕ) (s sofar m : List ℕ) (x : TypeIndex) (ps : List ℕ) (h : 2 ≤ n) (l : n ≤ length ss) (q : s ≡ get_or ss (n - 1) [])
-      (c : combined_answer limits ts (take (n - 1) ss) ≡ gives sofar) (w : MeasuredFirst limits ts (take (n - 1) ss) (variant.Done size) m)
+      (c : combined_answer limits ts (take (n - 1) ss) ≡ gives sofar) (w : MeasuredFirst limits ts (take (n - 1) ss) (Ok size) m)
       (f : FirstTyped table ts ss x ps) where
     abbrev others : List (List ℕ)
     others = take (n - 1) ss
@@ -544,34 +545,36 @@ module _
     both-joined = sym (ap₂ (combine (type_view t)) (rule-bytes t others) (rule-bytes t (last ∷ []))) ∙ all-joined
 
     next-measured :
-        (r : reply.Reply) (p : List ℕ) →
-        ((z : ℕ) → r ≡ variant.Done z → Measured (combined (dossier_of others) (dossier_of (last ∷ []))).snapshots p) →
+        (r : Result ℕ Refusal) (p : List ℕ) →
+        ((z : ℕ) → r ≡ Ok z → Measured (combined (dossier_of others) (dossier_of (last ∷ []))).snapshots p) →
         MeasuredFirst limits ts (take n ss) r p
-    unfolding MeasuredFirst
-    next-measured (variant.Done z) p g =
-        first-measured (take n ss) (variant.Done z) p (first-has ss n (omega arith) l) (first-each n)
+    next-measured (Ok z) p g =
+        first-measured (take n ss) (Ok z) p (first-has ss n (omega arith) l) (first-each n)
         (subst (λ (d : Dossier). Measured d.snapshots p) both-joined (g z refl))
-    next-measured (variant.Refused z) p g = tt
+    next-measured (Err q) p g = tt
 
     nth-adds : Adds limits table sofar m s x ps ts (take n ss)
     nth-adds = record { addable = record { added = adds-last; under = refl }; joined = add-next; measured = next-measured }
 
   -- what the first n came to
-  module _ (n : ℕ) (h : 1 ≤ n) (l : n ≤ length ss) (r : reply.Reply) (after old : List ℕ)
+  module _ (n : ℕ) (h : 1 ≤ n) (l : n ≤ length ss) (r : Result ℕ Refusal) (after old : List ℕ)
       (e : dossier_returned (replied r) after ≡ returned (outcome (combined_answer limits ts (take n ss)) old)) where
     as-ruled : dossier_returned (replied r) after ≡ returned (outcome (answer_for (ruled (take n ss))) old)
     as-ruled = e ∙ ap (λ (a : Answer). returned (outcome a old)) (first-is n h l)
 
-    replies-ruled : {y : reply.Reply} → r ≡ y → dossier_returned (replied y) after ≡ returned (outcome (answer_for (ruled (take n ss))) old)
-    replies-ruled f = ap (λ (y : reply.Reply). dossier_returned (replied y) after) (sym f) ∙ as-ruled
+    replies-ruled :
+        {y : Result ℕ Refusal} → r ≡ y → dossier_returned (replied y) after ≡ returned (outcome (answer_for (ruled (take n ss))) old)
+    replies-ruled f = ap (λ (y : Result ℕ Refusal). dossier_returned (replied y) after) (sym f) ∙ as-ruled
 
-    first_done : (m : ℕ) → r ≡ variant.Done m → combined_answer limits ts (take n ss) ≡ gives (take m after)
+    first_done : (m : ℕ) → r ≡ Ok m → combined_answer limits ts (take n ss) ≡ gives (take m after)
     first_done m f = first-is n h l ∙ for-done (ruled (take n ss)) m after old (replies-ruled f)
 
     -- so are more of them
-    more-refused : (i m : ℕ) → i ≡ n + 1 → i ≤ length ss → r ≡ variant.Refused m → combined_answer limits ts (take i ss) ≡ refuses m
-    more-refused i m q g f =
-        let s = replies-ruled f in
+    more-refused : (i : ℕ) (q : Refusal) → i ≡ n + 1 → i ≤ length ss → r ≡ Err q →
+        combined_answer limits ts (take i ss) ≡ refuses (refusal_number q)
+    more-refused i q f g k =
+        let m = refusal_number q in
+        let s = replies-ruled k in
         let j : i - 1 ≡ n = omega arith in
         let last = get_or ss (i - 1) [] ∷ [] in
         let all : take i ss ≡ take n ss ++ last = first-last i (omega arith) g ∙ ap (λ (y : ℕ). take y ss ++ last) j in
@@ -580,17 +583,15 @@ module _
         first-is i (omega arith) g ∙ refused-more (take n ss) (take i ss) m w (for-refused (ruled (take n ss)) m old s)
 
     stopped :
-        (i m : ℕ) (z : List ℕ) → i ≡ n + 1 → i ≤ length ss → r ≡ variant.Refused m →
-        replies r z ≡ outcome (combined_answer limits ts (take i ss)) z
-    stopped i m z q g f =
-        ap (λ (x : reply.Reply). replies x z) f ∙ ap (λ (a : Answer). outcome a z) (sym (more-refused i m q g f))
+        (i : ℕ) (q : Refusal) (z : List ℕ) → i ≡ n + 1 → i ≤ length ss → r ≡ Err q →
+        replies (Err q) z ≡ outcome (combined_answer limits ts (take i ss)) z
+    stopped i q z f g k = ap (λ (a : Answer). outcome a z) (sym (more-refused i q f g k))
 
 -- ---- replies and what they wrote
 
-call-within : (r : reply.Reply) (after old : List ℕ) (a : Answer) → replies r after ≡ outcome a old → DoneWithin r after
-unfolding DoneWithin
-call-within (variant.Refused n) after old a e = tt
-call-within (variant.Done n) after old a e = go a (ap (λ (o : Outcome). o.reply) e) (ap (λ (o : Outcome). o.bytes) e)
+call-within : (r : Result ℕ Refusal) (after old : List ℕ) (a : Answer) → replies r after ≡ outcome a old → DoneWithin r after
+call-within (Err q) after old a e = tt
+call-within (Ok n) after old a e = go a (ap (λ (o : Outcome). o.reply) e) (ap (λ (o : Outcome). o.bytes) e)
   where
     go : (a : Answer) → answers.Reply.done n ≡ reply_of a → after ≡ laid a old → n ≤ length after
     go (gives x) p b = let q : n ≡ length x = cc in omega (arith, q, ap length b ∙ length-append x (drop (length x) old))
@@ -598,41 +599,20 @@ call-within (variant.Done n) after old a e = go a (ap (λ (o : Outcome). o.reply
     go (refuses m) p b = never (cc)
     go (refuses_at m i) p b = never (cc)
 
-check-within : (r : reply.Reply) (after table s out : List ℕ) → replies r after ≡ check_call table s out → DoneWithin r after
+check-within : (r : Result ℕ Refusal) (after table s out : List ℕ) → replies r after ≡ check_call table s out → DoneWithin r after
 unfolding check_call
 check-within r after table s out e = call-within r after out (check_answer (length out) table s) e
 
 combine-within :
-    (limits : Limits) (r : reply.Reply) (after table x y out : List ℕ) → replies r after ≡ combine_call limits table x y out → DoneWithin r after
+    (limits : Limits) (r : Result ℕ Refusal) (after table x y out : List ℕ) → replies r after ≡ combine_call limits table x y out →
+    DoneWithin r after
 unfolding combine_call
 combine-within limits r after table x y out e = call-within r after out (combine_answer limits (length out) table x y) e
 
-refused-within : (r : reply.Reply) (s : List ℕ) (n : ℕ) → r ≡ variant.Refused n → DoneWithin r s
-unfolding DoneWithin
-refused-within r s n e = subst (λ (y : reply.Reply). DoneWithin y s) (sym e) tt
-
-refused-measured :
-    (limits : Limits) (ts : Table) (es : List (List ℕ)) (r : reply.Reply) (m : List ℕ) (n : ℕ) → r ≡ variant.Refused n →
-    MeasuredFirst limits ts es r m
-unfolding MeasuredFirst
-refused-measured limits ts es r m n e = subst (λ (y : reply.Reply). MeasuredFirst limits ts es y m) (sym e) tt
-
 -- ---- what the code knows of the first n events
 
--- what was written is inside the buffer
-module _
-    {limits : Limits} {table batch : List ℕ} {x : BatchIndex} {n size : ℕ} {r : reply.Reply} {m after old : List ℕ}
-    (w : CombinedFirst limits table batch x n r m after old)
-    (done : r ≡ variant.Done size) where
-  pub done-within : size ≤ length after
-  unfolding DoneWithin
-  done-within = subst (λ (y : reply.Reply). DoneWithin y after) done w.within
-
-  pub done-long : size ≡ length (take size after)
-  done-long = sym (length-take-le size after done-within)
-
 -- r is the answer of combining the first n events, in a buffer that had the bytes `old` and has `after`
-pub record AnswersFirst (limits : Limits) (table batch : List ℕ) (x : BatchIndex) (n : ℕ) (r : reply.Reply) (after old : List ℕ) : Type 0 where
+pub record AnswersFirst (limits : Limits) (table batch : List ℕ) (x : BatchIndex) (n : ℕ) (r : Result ℕ Refusal) (after old : List ℕ) : Type 0 where
   pub is :
       (ts : Table) (ss : List (List ℕ)) → Agreed table batch x ts ss → n ≤ length ss →
       replies r after ≡ outcome (combined_answer limits ts (take n ss)) old
@@ -659,7 +639,7 @@ module _
       let there = g.is_batch in
       let types : ts ≡ w.types = some_same (sym g.is_table ∙ w.agreed.is_table) in
       let first : get_or ss 0 [] ≡ get_or w.events 0 [] =
-      sym (there.each 0 (omega (arith, there.one, there.count))) ∙ here.each 0 (omega (arith, here.one, here.count)) in
+      sym (there.each 0 (omega (arith, there.one, there.count))).bytes ∙ (here.each 0 (omega (arith, here.one, here.count))).bytes in
       record {
         first = w.typed.first;
         taken = ap₂ (λ (u : Table) (s : List ℕ). event_asked narrow u s) types first ∙ w.typed.taken;
@@ -668,7 +648,7 @@ module _
 
   -- one event, checked
   module _
-      {s after old : List ℕ} {r : reply.Reply} (some : 1 ≤ n) (few : n ≤ 1) (room : HasRoom old) (is : IsEvent batch x 0 s)
+      {s after old : List ℕ} {r : Result ℕ Refusal} (some : 1 ≤ n) (few : n ≤ 1) (room : HasRoom old) (is : IsEvent batch x 0 s)
       (e : replies r after ≡ check_call table s old) where
     pub one-checked : AnswersFirst limits table batch x n r after old
     one-checked = record {
@@ -691,63 +671,63 @@ module _
               (first-typed ts ss g) f);
         }
 
-  -- those before the n-th, combined
-  module _ {r : reply.Reply} {m after old : List ℕ} (two : 2 ≤ n) (others : CombinedFirst limits table batch x (n - 1) r m after old) where
-    -- a refusal of these is one of all
-    pub all-refused : {z : ℕ} {out : List ℕ} → r ≡ variant.Refused z → AnswersFirst limits table batch x n r out out
-    all-refused {z} {out} e = record {
+  -- those before the n-th, combined: a refusal of these is one of all
+  module _ {q : Refusal} {m after old : List ℕ} (two : 2 ≤ n) (others : CombinedFirst limits table batch x (n - 1) (Err q) m after old) where
+    pub all-refused : {r : Result ℕ Refusal} → r ≡ Err q → {out : List ℕ} → AnswersFirst limits table batch x n r out out
+    all-refused e {out} = rw e (record {
       is = λ ts ss g l.
-          stopped limits permitted table ts g.is_table ss (known ts ss g.agreed) (n - 1) (omega arith) (omega arith) r after old
-          (others.first ts ss g (omega arith)) n z out (omega arith) l e;
-    }
+          stopped limits permitted table ts g.is_table ss (known ts ss g.agreed) (n - 1) (omega arith) (omega arith) (Err q) after old
+          (others.first ts ss g (omega arith)) n q out (omega arith) l refl;
+    })
 
-    pub refused-combined : {z : ℕ} {out old' : List ℕ} → r ≡ variant.Refused z → CombinedFirst limits table batch x n r m out old'
-    refused-combined {z} {out} {old'} e = record {
-      within = refused-within r out z e;
+    pub refused-combined : {r : Result ℕ Refusal} → r ≡ Err q → {out old' : List ℕ} → CombinedFirst limits table batch x n r m out old'
+    refused-combined e {out} {old'} = rw e (record {
+      within = tt;
       first = λ ts ss g l.
-          ap (λ (o : Outcome). returned o) ((all-refused e).is ts ss g l) ∙ any-buffer (combined_answer limits ts (take n ss)) out old';
-      measured = λ ts ss g l. refused-measured limits ts (take n ss) r m z e;
-    }
+          ap (λ (o : Outcome). returned o) ((all-refused refl).is ts ss g l) ∙ any-buffer (combined_answer limits ts (take n ss)) out old';
+      measured = λ ts ss g l. tt;
+    })
 
-    -- to their dossier the n-th, s, is added
-    module _ {size : ℕ} {s : List ℕ} (done : r ≡ variant.Done size) (is : IsEvent batch x (n - 1) s) where
-      last-adds :
-          (ts : Table) (ss : List (List ℕ)) → Agreed table batch x ts ss → n ≤ length ss → Adds limits table (take size after) m s t ps ts (take n ss)
-      last-adds ts ss g l =
-          let these = known ts ss g.agreed in
-          let given =
-          first_done limits permitted table ts g.is_table ss these (n - 1) (omega arith) (omega arith) r after old
-          (others.first ts ss g (omega arith)) size done in
-          let measured = subst (λ (y : reply.Reply). MeasuredFirst limits ts (take (n - 1) ss) y m) done (others.measured ts ss g (omega arith)) in
-          nth-adds limits permitted table ts g.is_table ss these n size s (take size after) m t ps two l (is ss g.is_batch (omega arith)) given measured
-          (first-typed ts ss g)
+  -- to their dossier the n-th, s, is added
+  module _
+      {size : ℕ} {m after old s : List ℕ} (two : 2 ≤ n) (others : CombinedFirst limits table batch x (n - 1) (Ok size) m after old)
+      (is : IsEvent batch x (n - 1) s) where
+    last-adds :
+        (ts : Table) (ss : List (List ℕ)) → Agreed table batch x ts ss → n ≤ length ss → Adds limits table (take size after) m s t ps ts (take n ss)
+    last-adds ts ss g l =
+        let these = known ts ss g.agreed in
+        let given =
+        first_done limits permitted table ts g.is_table ss these (n - 1) (omega arith) (omega arith) (Ok size) after old
+        (others.first ts ss g (omega arith)) size refl in
+        nth-adds limits permitted table ts g.is_table ss these n size s (take size after) m t ps two l (is ss g.is_batch (omega arith)) given
+        (others.measured ts ss g (omega arith)) (first-typed ts ss g)
 
-      pub last-addable : AddableUnder limits table (take size after) m s t ps
-      last-addable = (last-adds w.types w.events w.agreed w.within).addable
+    pub last-addable : AddableUnder limits table (take size after) m s t ps
+    last-addable = (last-adds w.types w.events w.agreed w.within).addable
 
-      -- what that answered
-      module _
-          {r' : reply.Reply} {after' : List ℕ} (out : List ℕ) (room : HasRoom out)
-          (e : (h : AddableUnder limits table (take size after) m s t ps) →
-          replies r' after' ≡ combine_call limits table (take size after) h.added.lone out) where
-        pub last-added : AnswersFirst limits table batch x n r' after' out
-        last-added = record { is = λ ts ss g l. let a = last-adds ts ss g l in e a.addable ∙ a.joined out room }
+    -- what that answered
+    module _
+        {r' : Result ℕ Refusal} {after' : List ℕ} (out : List ℕ) (room : HasRoom out)
+        (e : (h : AddableUnder limits table (take size after) m s t ps) →
+        replies r' after' ≡ combine_call limits table (take size after) h.added.lone out) where
+      pub last-added : AnswersFirst limits table batch x n r' after' out
+      last-added = record { is = λ ts ss g l. let a = last-adds ts ss g l in e a.addable ∙ a.joined out room }
 
-        pub last-combined :
-            {m' old' : List ℕ} →
-            ((h : AddableUnder limits table (take size after) m s t ps) (z : ℕ) → r' ≡ variant.Done z →
-            Measured (combined h.added.both.left h.added.both.right).snapshots m') →
-            CombinedFirst limits table batch x n r' m' after' old'
-        last-combined {m'} {old'} f = record {
-          within = combine-within limits r' after' table (take size after) last-addable.added.lone out (e last-addable);
-          first = λ ts ss g l.
-              ap (λ (o : Outcome). returned o) (last-added.is ts ss g l) ∙ any-buffer (combined_answer limits ts (take n ss)) out old';
-          measured = λ ts ss g l. let a = last-adds ts ss g l in a.measured r' m' (f a.addable);
-        }
+      pub last-combined :
+          {m' old' : List ℕ} →
+          ((h : AddableUnder limits table (take size after) m s t ps) (z : ℕ) → r' ≡ Ok z →
+          Measured (combined h.added.both.left h.added.both.right).snapshots m') →
+          CombinedFirst limits table batch x n r' m' after' old'
+      last-combined {m'} {old'} f = record {
+        within = combine-within limits r' after' table (take size after) last-addable.added.lone out (e last-addable);
+        first = λ ts ss g l.
+            ap (λ (o : Outcome). returned o) (last-added.is ts ss g l) ∙ any-buffer (combined_answer limits ts (take n ss)) out old';
+        measured = λ ts ss g l. let a = last-adds ts ss g l in a.measured r' m' (f a.addable);
+      }
 
 -- as many events as the index has are all
 pub all-taken :
-    {limits : Limits} {table batch : List ℕ} {x : BatchIndex} (r : reply.Reply) {after old : List ℕ} →
+    {limits : Limits} {table batch : List ℕ} {x : BatchIndex} (r : Result ℕ Refusal) {after old : List ℕ} →
     AnswersFirst limits table batch x x.count r after old →
     (ts : Table) (ss : List (List ℕ)) → Agreed table batch x ts ss → replies r after ≡ outcome (combined_answer limits ts ss) old
 all-taken {limits} {x = x} r {old = old} e ts ss g =
@@ -763,7 +743,13 @@ placed (Answer.finds f) = Answer.finds f
 placed (refuses n) = refuses_at n 0
 placed (refuses_at n i) = refuses_at n i
 
-placed-reply : (a : Answer) → at_first (reply_of a) ≡ reply_of (placed a)
+abbrev pub placed_reply : answers.Reply → answers.Reply
+placed_reply (answers.Reply.done n) = answers.Reply.done n
+placed_reply (answers.Reply.found f) = answers.Reply.found f
+placed_reply (answers.Reply.refused n) = answers.Reply.refused_at n 0
+placed_reply (answers.Reply.refused_at n i) = answers.Reply.refused_at n i
+
+placed-reply : (a : Answer) → placed_reply (reply_of a) ≡ reply_of (placed a)
 unfolding placed
 placed-reply (gives x) = refl
 placed-reply (Answer.finds f) = refl
@@ -778,11 +764,11 @@ placed-laid (refuses n) old = refl
 placed-laid (refuses_at n i) old = refl
 
 placed-replies :
-    (b : BatchReply) (r : reply.Reply) (after out : List ℕ) (a : Answer) → batch_replied b ≡ at_first (replied r) →
+    (b : Result ℕ BatchRefusal) (r : Result ℕ Refusal) (after out : List ℕ) (a : Answer) → batch_replied b ≡ placed_reply (replied r) →
     replies r after ≡ outcome a out →
     batch_replies b after ≡ outcome (placed a) out
 placed-replies b r after out a p e =
-    let q : batch_replied b ≡ reply_of (placed a) = p ∙ (ap (λ (o : Outcome). at_first o.reply) e ∙ placed-reply a) in
+    let q : batch_replied b ≡ reply_of (placed a) = p ∙ (ap (λ (o : Outcome). placed_reply o.reply) e ∙ placed-reply a) in
     let d : after ≡ laid (placed a) out = ap (λ (o : Outcome). o.bytes) e ∙ placed-laid a out in
     λ i. record { reply = q i; bytes = d i }
 
@@ -833,54 +819,30 @@ given-refused limits ts ss n i e = go (events_asked ts 0 ss) e
     go (accepted []) e = cc
     go (accepted (a ∷ bs)) e = seven (agree_with a 1 bs) _ e
 
-module _
-    (table : List ℕ) (ts : Table) (ss : List (List ℕ)) (q : AskedAt (Unit {0})) (t : TypeIndex) (ps : List ℕ) (r : EventsAsked)
-    (w : RefusalIs table ts ss q t ps r) where
-  pub refusal-was : (r.number ≡ 0 → ⊥) → q ≡ refused_at r.number r.position
-  unfolding RefusalIs
-  refusal-was h = go q w
-    where
-      go : (q : AskedAt (Unit {0})) → RefusalIs table ts ss q t ps r → q ≡ refused_at r.number r.position
-      go (refused_at n i) w = sym (ap₂ (λ (x y : ℕ). refused_at x y) w.0 w.1)
-      go (accepted u) w = absurd (h w.0)
+-- the frame was read, or not
+pub framed :
+    (batch : List ℕ) {r : std.Option BatchIndex} → BatchReads (batch_of batch) batch r → {x : BatchIndex} → r ≡ Some x →
+    BatchStands (batch_of batch) batch x
+framed batch w e = subst (BatchReads (batch_of batch) batch) e w
 
-  pub all-agreed : r.number ≡ 0 → (q ≡ accepted tt) × FirstTyped table ts ss t ps
-  unfolding RefusalIs
-  all-agreed h = go q w
-    where
-      go : (q : AskedAt (Unit {0})) → RefusalIs table ts ss q t ps r → (q ≡ accepted tt) × FirstTyped table ts ss t ps
-      go (refused_at n i) w = absurd (omega (arith, w.0, w.2))
-      go (accepted u) w = (refl, w.1)
+pub unframed : (batch : List ℕ) {r : std.Option BatchIndex} → BatchReads (batch_of batch) batch r → r ≡ None → batch_of batch ≡ none
+unframed batch w e = subst (BatchReads (batch_of batch) batch) e w
 
--- the events of a frame that was read
-pub record Framed (batch : List ℕ) (x : BatchIndex) : Type 0 where
-  pub what : List (List ℕ)
-  pub is : batch_of batch ≡ some what
-  pub stands : BatchIs batch what x
-
-pub framed : (batch : List ℕ) (x : BatchIndex) → BatchReads (batch_of batch) batch x → x.ok ≡ true → Framed batch x
-unfolding BatchReads
-framed batch x w h = go (batch_of batch) refl w
-  where
-    go : (o : Option (List (List ℕ))) → batch_of batch ≡ o → BatchReads o batch x → Framed batch x
-    go none e w = never (cc)
-    go (some ss) e w = record { what = ss; is = e; stands = w.1 }
-
-pub unframed : (batch : List ℕ) (x : BatchIndex) → BatchReads (batch_of batch) batch x → x.ok ≡ false → batch_of batch ≡ none
-unfolding BatchReads
-unframed batch x w h = go (batch_of batch) refl w
-  where
-    go : (o : Option (List (List ℕ))) → batch_of batch ≡ o → BatchReads o batch x → batch_of batch ≡ none
-    go none e w = e
-    go (some ss) e w = let z = w.0 in never (cc)
+-- a question of the whole batch is answered no where nothing was found
+pub none-first :
+    {A B : Type 0} {o : std.Option A} {q e : Refusal} {r : Result B BatchRefusal} → Err e ≡ ok_or o q → o ≡ None →
+    IsErrAnd r (λ y. y ≡ at_first e) → r ≡ Err (at_first q)
+none-first {A} {B} {o} {q} {e} {r} told n h =
+    let s : ◌≡◌ {A = Result A Refusal} (Err e) (Err q) = told ∙ ap (λ (x : std.Option A). ok_or x q) n in
+    passed-on h ∙ let i : e ≡ q = cc in ap (λ (y : Refusal). Err (at_first y)) i
 
 pub rooms-are :
-    (r : Rooms) → have_room r ≡ true →
+    (r : Rooms) → true ≡ have_room r →
     (dossier_capacity ≤ r.output) × (dossier_capacity ≤ r.first) × (dossier_capacity ≤ r.second) × (dossier_capacity ≤ r.third)
 unfolding have_room
 rooms-are r h =
     let (x, d) = (and-eq-true_iff (leb dossier_capacity r.output && leb dossier_capacity r.first && leb dossier_capacity r.second)
-    (leb dossier_capacity r.third)).0 h in
+    (leb dossier_capacity r.third)).0 (sym h) in
     let (y, c) = (and-eq-true_iff (leb dossier_capacity r.output && leb dossier_capacity r.first) (leb dossier_capacity r.second)).0 x in
     let (a, b) = (and-eq-true_iff (leb dossier_capacity r.output) (leb dossier_capacity r.first)).0 y in (
       leb-true dossier_capacity r.output a,
@@ -889,20 +851,46 @@ rooms-are r h =
       leb-true dossier_capacity r.third d,
     )
 
--- no event was refused
-abbrev pub agreed-first :
-    {table batch : List ℕ} {name : Text} {ps : List ℕ} {read : TableRead} {x : BatchIndex} (t : TableGot table name ps read) (f : Framed batch x)
-    (r : EventsAsked) → RefusalIs table t.what f.what (events_together t.what f.what) read.index ps r → r.number ≡ 0 →
-    FirstOf table batch x read.index ps x.count
-agreed-first t f r w h =
-    let a = all-agreed _ t.what f.what _ _ _ r w h in
-    record {
-      types = t.what;
-      events = f.what;
-      agreed = record { is_table = t.is; is_batch = f.stands; agreed = a.0 };
-      typed = a.1;
-      within = omega (arith, f.stands.count);
-    }
+-- the name that the first event, s, begins with
+pub first-name :
+    {batch s name : List ℕ} {x : BatchIndex} → IsEvent batch x 0 s →
+    ((counts : Counts) (e : Event) → event_of counts s ≡ some e → name ≡ e.head.type) → FirstName batch x name
+first-name is names ss b e h = names narrow e (ap (event_of narrow) (is ss b (omega (arith, b.one, b.count))) ∙ h)
+
+-- the table and the frame were read
+module _
+    (table batch : List ℕ) (name : Text) (ps : List ℕ) {read : std.Option (std.Option TypeIndex)} {found : std.Option TypeIndex}
+    (says : TableSays (table_of table) table name ps read) (table-read : read ≡ Some found)
+    {r : std.Option BatchIndex} {x : BatchIndex} (reads : BatchReads (batch_of batch) batch r) (frame-read : r ≡ Some x) where
+  table-said : TableSaid (table_of table) table name ps found
+  table-said = table_got table name ps read says table-read
+
+  frame-stands : BatchStands (batch_of batch) batch x
+  frame-stands = framed batch reads frame-read
+
+  -- the table was read for the name of the first event's type
+  pub first-named : FirstName batch x name → FirstNamed table batch x name found ps
+  first-named n = record {
+    events = frame-stands.what;
+    stands = frame-stands.stands;
+    named = n frame-stands.what frame-stands.stands;
+    says = table-said;
+  }
+
+  pub frame-few : x.count ≤ 16
+  frame-few = frame-stands.stands.few
+
+  -- no event was refused
+  pub agreed-first : {t : TypeIndex} → AnswersEvents table batch x ps (Ok t) → FirstOf table batch x t ps x.count
+  agreed-first answers =
+      let w = answers table-said.what frame-stands.what table-said.is frame-stands.stands in
+      record {
+        types = table-said.what;
+        events = frame-stands.what;
+        agreed = record { is_table = table-said.is; is_batch = frame-stands.stands; agreed = w.is };
+        typed = w.typed;
+        within = omega (arith, frame-stands.stands.count);
+      }
 
 -- the questions in their order, up to those of the events
 all-asked-is :
@@ -919,41 +907,65 @@ unfolding batch_call
 call-is limits rooms table batch out a e = ap (λ (b : Answer). outcome b out) e
 
 pub no-limits :
-    (limits : Limits) (rooms : Rooms) (table batch out : List ℕ) → is_permitted limits ≡ false →
+    (limits : Limits) (rooms : Rooms) (table batch out : List ℕ) → false ≡ is_permitted limits →
     outcome (refuses_at 18 0) out ≡ batch_call limits rooms table batch out
 unfolding batch_answer batch_given
-no-limits limits rooms table batch out h = sym (call-is limits rooms table batch out (refuses_at 18 0) (rw (out_of_range limits h)))
+no-limits limits rooms table batch out h = sym (call-is limits rooms table batch out (refuses_at 18 0) (rw (out_of_range limits (sym h))))
 
-module _ {limits : Limits} (permitted : Permitted limits) (rooms : Rooms) (table batch out : List ℕ) where
-  pub no_room : have_room rooms ≡ false → outcome (refuses_at 1 0) out ≡ batch_call limits rooms table batch out
+module _ (limits : Limits) (allowed : true ≡ is_permitted limits) (rooms : Rooms) (table batch out : List ℕ) where
+  is-allowed : Permitted limits
+  is-allowed = permitted limits (sym allowed)
+
+  pub no_room : false ≡ have_room rooms → outcome (refuses_at 1 0) out ≡ batch_call limits rooms table batch out
   unfolding batch_answer batch_given
-  no_room h = sym (call-is limits rooms table batch out (refuses_at 1 0) (rw (in-range limits permitted, h)))
+  no_room h = sym (call-is limits rooms table batch out (refuses_at 1 0) (rw (in-range limits is-allowed, sym h)))
 
-  module _ (room : have_room rooms ≡ true) where
-    pub no_table : table_of table ≡ none → outcome (refuses_at 2 0) out ≡ batch_call limits rooms table batch out
-    unfolding batch_answer batch_asked batch_given
-    no_table h = sym (call-is limits rooms table batch out (refuses_at 2 0) (rw (in-range limits permitted, room, h)))
-
-    module _ {name : Text} {ps : List ℕ} {read : TableRead} (t : TableGot table name ps read) where
-      pub no-frame : batch_of batch ≡ none → outcome (refuses_at 9 0) out ≡ batch_call limits rooms table batch out
+  module _ (room : true ≡ have_room rooms) where
+    module _ (name : Text) (ps : List ℕ) {read : std.Option (std.Option TypeIndex)} (says : TableSays (table_of table) table name ps read) where
+      pub no_table : read ≡ None → outcome (refuses_at 2 0) out ≡ batch_call limits rooms table batch out
       unfolding batch_answer batch_asked batch_given
-      no-frame h = sym (call-is limits rooms table batch out (refuses_at 9 0) (rw (in-range limits permitted, room, t.is, h)))
+      no_table h =
+          sym (call-is limits rooms table batch out (refuses_at 2 0)
+          (rw (in-range limits is-allowed, sym room, table-refused table name ps read says h)))
 
-      module _ {x : BatchIndex} (f : Framed batch x) where
-        asked_is : (a : Answer) → batch_given (all-given limits t.what f.what) ≡ a → batch_call limits rooms table batch out ≡ outcome a out
-        asked_is a e = call-is limits rooms table batch out a (all-asked-is permitted rooms table batch room t.what t.is f.what f.is ∙ e)
+      module _ {found : std.Option TypeIndex} (table-read : read ≡ Some found) {r : std.Option BatchIndex} (reads : BatchReads (batch_of batch) batch r) where
+        pub no-frame : r ≡ None → outcome (refuses_at 9 0) out ≡ batch_call limits rooms table batch out
+        unfolding batch_answer batch_asked batch_given
+        no-frame h =
+            sym (call-is limits rooms table batch out (refuses_at 9 0)
+            (rw (in-range limits is-allowed, sym room, (table_got table name ps read says table-read).is, unframed batch reads h)))
 
-        pub refused-events :
-            {n i : ℕ} → events_together t.what f.what ≡ refused_at n i → outcome (refuses_at n i) out ≡ batch_call limits rooms table batch out
-        refused-events e = sym (asked_is (refuses_at _ _) (given-refused limits t.what f.what _ _ e))
+        module _ {x : BatchIndex} (frame-read : r ≡ Some x) where
+          abbrev the-table : TableSaid (table_of table) table name ps found
+          the-table = table-said table batch name ps says table-read reads frame-read
 
-        pub combined-events :
-            events_together t.what f.what ≡ accepted tt → (b : BatchReply) (r : reply.Reply) {after : List ℕ} →
-            batch_replied b ≡ at_first (replied r) → replies r after ≡ outcome (combined_answer limits t.what f.what) out →
-            batch_replies b after ≡ batch_call limits rooms table batch out
-        combined-events agreed b r e all =
-            placed-replies b r _ out _ e all ∙ sym
-            (asked_is (placed (combined_answer limits t.what f.what)) (given-placed limits t.what f.what agreed))
+          abbrev the-frame : BatchStands (batch_of batch) batch x
+          the-frame = frame-stands table batch name ps says table-read reads frame-read
+
+          asked_is : (a : Answer) → batch_given (all-given limits the-table.what the-frame.what) ≡ a →
+              batch_call limits rooms table batch out ≡ outcome a out
+          asked_is a e =
+              call-is limits rooms table batch out a
+              (all-asked-is is-allowed rooms table batch (sym room) the-table.what the-table.is the-frame.what the-frame.is ∙ e)
+
+          pub refused-events :
+              {n i : ℕ} →
+              ((ts : Table) (ss : List (List ℕ)) → table_of table ≡ some ts → BatchIs batch ss x → events_together ts ss ≡ refused_at n i) →
+              outcome (refuses_at n i) out ≡ batch_call limits rooms table batch out
+          refused-events {n} {i} answers =
+              let e = answers the-table.what the-frame.what the-table.is the-frame.stands in
+              sym (asked_is (refuses_at n i) (given-refused limits the-table.what the-frame.what n i e))
+
+          pub combined-events :
+              {t : TypeIndex} → AnswersEvents table batch x ps (Ok t) → (b : Result ℕ BatchRefusal) (r : Result ℕ Refusal) {after : List ℕ} →
+              batch_replied b ≡ placed_reply (replied r) →
+              ((ts : Table) (ss : List (List ℕ)) → Agreed table batch x ts ss → replies r after ≡ outcome (combined_answer limits ts ss) out) →
+              batch_replies b after ≡ batch_call limits rooms table batch out
+          combined-events answers b r e all =
+              let agreed = (answers the-table.what the-frame.what the-table.is the-frame.stands).is in
+              let told = all the-table.what the-frame.what (record { is_table = the-table.is; is_batch = the-frame.stands; agreed = agreed }) in
+              placed-replies b r _ out _ e told ∙ sym
+              (asked_is (placed (combined_answer limits the-table.what the-frame.what)) (given-placed limits the-table.what the-frame.what agreed))
 
 -- ---- the batch gives the rule over its events
 

@@ -1,35 +1,23 @@
-ghost use Rattle.std.specs.Prelude.{ℕ, ◌≤◌, ◌≡◌, List, length};
+ghost use Rattle.std.specs.Prelude.{ℕ, ◌≤◌, ◌≡◌, List, length, Some};
 ghost use Rattle.std.proofs.Math.Option.{some};
 ghost use Rattle.ontology.specs.Table.{EventType, Table};
 ghost use Rattle.ontology.specs.TableLayout.{table_of};
 ghost use Rattle.ontology.specs.code.TypeIndex.{PropertiesAre, TableSays};
 ghost use Rattle.event.specs.Event.{Event};
 ghost use Rattle.event.specs.EventLayout.{narrow, event_of};
-ghost use Rattle.event.specs.code.EventIndex.{EventIs, EventReads};
+ghost use Rattle.event.specs.code.EventIndex.{EventIs, EventReads, event_questions};
 ghost use Rattle.batch.specs.Batch.{events_agree};
-ghost use Rattle.batch.specs.code.BatchIndex.{BatchIs, events_together, FirstNamed, OneAnswers, RefusalIs, first_apart};
+ghost use Rattle.batch.specs.code.BatchIndex.{BatchIs, events_together, FirstNamed, OneAnswers, AllAnswers};
 
 use crate::frame::{BatchIndex, event_part};
 use event::agree::is_match_same;
-use event::ask::{ask_event, type_name};
-use event::head::heads_agree;
+use event::ask::ask_event;
+use event::head::{heads_agree, type_name};
 use event::read::{EventCounts, EventIndex, read_event};
-use ontology::tables::{TableRead, read_table};
+use ontology::tables::read_table;
+use ontology::types::TypeIndex;
 use packed::order::same;
-
-// The number of a question that is answered no and the position of its event; 0 where all are answered yes.
-#[derive(Clone, Copy)]
-pub struct EventsAsked {
-    pub number: u8,
-    pub position: usize,
-}
-
-// What asking answers; no refusal where the number is 0.
-fn answer(number: u8, position: usize) -> EventsAsked
-    ensures { (result.number ≡ number) × (result.position ≡ position) }
-{
-    EventsAsked { number, position }
-}
+use replies::reply::{BatchRefusal, Refusal};
 
 // Question 7 of two events.
 fn events_agree(
@@ -50,80 +38,66 @@ fn events_agree(
     heads_agree(a, d.head, b, e.head) && is_match_same(count, properties, a, left, b, right)
 }
 
-// The position of the first event that does not agree with the first one, after one more was asked.
-fn first_apart(apart: usize, agrees: bool, position: usize) -> usize
-    ensures { result ≡ first_apart apart agrees position }
-{
-    if apart == 0 && !agrees {
-        position
-    } else {
-        apart
-    }
-}
-
-// The questions of an event, whose index is e. The table was read for a name, and is read again only where the event's type has another one.
+// The questions of an event: its type and its index. The table was read for a name, and is read again only where the event's type has another one.
 fn ask_one(
     table: &[u8],
     name: &[u8],
-    read: TableRead,
+    found: Option<TypeIndex>,
     properties: &[usize],
     event: &[u8],
-    e: EventIndex,
-    sets: &[usize],
-) -> u8
-    requires table_says { TableSays (table_of table.now) table.now name.now properties.now read × (length properties.now ≡ 96)
-        × (length sets.now ≡ 96) }
-    requires event_reads { EventReads (event_of narrow event.now) event.now sets.now e }
-    ensures { OneAnswers table.now event.now sets.now result e }
+    sets: &mut [usize],
+) -> Result<(TypeIndex, EventIndex), Refusal>
+    requires { TableSays (table_of table.now) table.now name.now properties.now (Some found) × (length properties.now ≡ 96)
+        × (length sets.old ≡ 96) }
+    ensures { OneAnswers (event_questions narrow table.now event.now) table.now event.now sets.new result }
 {
+    let e = read_event(event, EventCounts::Narrow, sets);
     let other = type_name(event);
     if same(name, other) {
-        return ask_event(event, e, sets, read, properties);
+        return ask_event(event, e, sets, Some(found), properties);
     }
     let mut others = [0usize; 96];
     let again = read_table(table, other, &mut others);
     ask_event(event, e, sets, again, &others)
 }
 
-// Questions 3 to 6 of each event in turn, then 7 of each against the first. Each event is read once, and the table was read for the name of the first
-// one's type.
+// Questions 3 to 6 of each event in turn, then 7 of each against the first, whose type is answered. Each event is read once, and the table was read for the
+// name of the first one's type.
 pub fn ask_events(
     table: &[u8],
     batch: &[u8],
     x: BatchIndex,
     name: &[u8],
-    read: TableRead,
+    found: Option<TypeIndex>,
     properties: &[usize],
-) -> EventsAsked
-    requires { FirstNamed table.now batch.now x name.now read properties.now × (length properties.now ≡ 96) }
+) -> Result<TypeIndex, BatchRefusal>
+    requires { FirstNamed table.now batch.now x name.now found properties.now × (length properties.now ≡ 96) }
     ensures { (ts : Table) (ss : List (List ℕ)) → table_of table.now ≡ some ts → BatchIs batch.now ss x
-        → RefusalIs table.now ts ss (events_together ts ss) read.index properties.now result }
+        → AllAnswers (events_together ts ss) table.now ts ss properties.now result }
 {
     let head = event_part(batch, x, 0);
     let mut left = [0usize; 96];
     let mut right = [0usize; 96];
-    let d = read_event(head, EventCounts::Narrow, &mut left);
-    let first = ask_one(table, name, read, properties, head, d, &left);
-    if first != 0 {
-        return answer(first, 0);
-    }
-    let t = read.index;
-    let mut apart: usize = 0;
+    let (t, d) = ask_one(table, name, found, properties, head, &mut left)?;
+    let mut apart = None;
     for i in 1..x.count {
         let event = event_part(batch, x, i);
-        let e = read_event(event, EventCounts::Narrow, &mut right);
-        let asked = ask_one(table, name, read, properties, event, e, &right);
-        if asked != 0 {
-            return answer(asked, i);
+        let (_, e) = match ask_one(table, name, found, properties, event, &mut right) {
+            Ok(asked) => asked,
+            Err(refusal) => return Err(BatchRefusal {
+                refusal,
+                position: i,
+            }),
+        };
+        if apart.is_none() && !events_agree(head, d, &left, event, e, &right, t.count, properties) {
+            apart = Some(i);
         }
-        apart = first_apart(
-            apart,
-            events_agree(head, d, &left, event, e, &right, t.count, properties),
-            i,
-        );
     }
-    if apart == 0 {
-        return answer(0, 0);
+    match apart {
+        Some(position) => Err(BatchRefusal {
+            refusal: Refusal::Disagreement,
+            position,
+        }),
+        None => Ok(t),
     }
-    answer(7, apart)
 }

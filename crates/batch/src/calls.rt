@@ -1,23 +1,24 @@
-ghost use Rattle.std.specs.Prelude.{ℕ, ◌≤◌, ◌≡◌, List, length};
+ghost use Rattle.std.specs.Prelude.{ℕ, ◌≤◌, ◌≡◌, List, length, Some};
 ghost use Rattle.model.specs.Limits.{Permitted};
 ghost use Rattle.replies.specs.Answers.{outcome};
-ghost use Rattle.replies.specs.Replies.{replied, replies, batch_replied, batch_replies};
+ghost use Rattle.replies.specs.Replies.{replies, batch_replies};
 ghost use Rattle.replies.specs.Capacities.{dossier_capacity};
 ghost use Rattle.replies.specs.ChosenLimits.{limits_of};
 ghost use Rattle.ontology.specs.Table.{Table};
 ghost use Rattle.batch.specs.Batch.{have_room, batch_call};
-ghost use Rattle.batch.specs.code.BatchIndex.{Agreed, combined_answer, FirstOf, CombinedFirst, at_first};
+ghost use Rattle.batch.specs.code.BatchIndex.{FirstName, Agreed, combined_answer, FirstOf, CombinedFirst};
+ghost use Rattle.batch.specs.declared.frame.BatchIndex.{BatchIndex};
 
 use crate::asked::ask_events;
 use crate::frame::{BatchIndex, event_part, read_batch};
 use combining::add::add_event;
 use combining::check::check_known;
-use event::ask::type_name;
+use event::head::type_name;
 use ontology::tables::read_table;
 use ontology::types::TypeIndex;
 use replies::capacities::DOSSIER_CAPACITY;
 use replies::limits::{Limits, is_permitted};
-use replies::reply::{BatchReply, Reply};
+use replies::reply::{BatchRefusal, Refusal};
 
 // The dossier of the first n events, in the first of three buffers, and its measures: all but the last are combined first, then the last is added. The buffers
 // change roles. Of the events, which were accepted, and of the dossiers, which the batch made itself, no question before the last need be asked again.
@@ -33,7 +34,7 @@ fn combine_first(
     a: &mut [u8],
     b: &mut [u8],
     c: &mut [u8],
-) -> Reply
+) -> Result<usize, Refusal>
     requires permitted { Permitted (limits_of limits) × (1 ≤ n) × (n ≤ 16) × (length properties.now ≡ 96) × (length measures.old ≡ 17) }
     requires dossier_capacity_in_bounds { (dossier_capacity ≤ length a.old) × (dossier_capacity ≤ length b.old) × (dossier_capacity ≤ length c.old) }
     requires first_of { FirstOf table.now batch.now x t properties.now n }
@@ -43,7 +44,7 @@ fn combine_first(
     if n <= 1 {
         return check_known(table, event_part(batch, x, 0), t, measures, a);
     }
-    let others = combine_first(
+    let size = combine_first(
         limits,
         table,
         batch,
@@ -55,10 +56,7 @@ fn combine_first(
         b,
         c,
         a,
-    );
-    let Reply::Done(size) = others else {
-        return others;
-    };
+    )?;
     let event = event_part(batch, x, n - 1);
     add_event(
         limits,
@@ -85,7 +83,7 @@ fn combine_all(
     a: &mut [u8],
     b: &mut [u8],
     c: &mut [u8],
-) -> Reply
+) -> Result<usize, Refusal>
     requires permitted { Permitted (limits_of limits) × (x.count ≤ 16) × (dossier_capacity ≤ length out.old) × (length properties.now ≡ 96) }
     requires dossier_capacity_in_bounds { (dossier_capacity ≤ length a.old) × (dossier_capacity ≤ length b.old) × (dossier_capacity ≤ length c.old) }
     requires first_of { FirstOf table.now batch.now x t properties.now x.count }
@@ -97,7 +95,7 @@ fn combine_all(
     if n <= 1 {
         return check_known(table, event_part(batch, x, 0), t, &mut measures, out);
     }
-    let others = combine_first(
+    let size = combine_first(
         limits,
         table,
         batch,
@@ -109,10 +107,7 @@ fn combine_all(
         a,
         b,
         c,
-    );
-    let Reply::Done(size) = others else {
-        return others;
-    };
+    )?;
     let event = event_part(batch, x, n - 1);
     add_event(
         limits,
@@ -127,16 +122,6 @@ fn combine_all(
     )
 }
 
-// A reply of the whole batch, whose refusal has the position 0.
-fn batch_reply(r: Reply) -> BatchReply
-    ensures { batch_replied result ≡ at_first (replied r) }
-{
-    match r {
-        Reply::Done(n) => BatchReply::Done(n),
-        Reply::Refused(n) => BatchReply::Refused(n, 0),
-    }
-}
-
 // Question 1 of the sizes of the output and of three scratch buffers.
 fn have_room(out: usize, a: usize, b: usize, c: usize) -> bool
     ensures { result ≡ have_room (record { output = out; first = a; second = b; third = c }) }
@@ -145,6 +130,16 @@ fn have_room(out: usize, a: usize, b: usize, c: usize) -> bool
         && DOSSIER_CAPACITY <= a
         && DOSSIER_CAPACITY <= b
         && DOSSIER_CAPACITY <= c
+}
+
+// The name of the first event's type, for which the table is read; where the frame is bad, any name, as question 2 asks for none.
+fn first_name(batch: &[u8], frame: Option<BatchIndex>) -> &[u8]
+    ensures { (x : BatchIndex) → frame ≡ Some x → FirstName batch.now x result.now }
+{
+    match frame {
+        Some(x) => type_name(event_part(batch, x, 0)),
+        None => &batch[0..0],
+    }
 }
 
 // The dossier of a batch, written at the front of `out`; a, b and c are scratch.
@@ -156,42 +151,23 @@ pub fn batch(
     a: &mut [u8],
     b: &mut [u8],
     c: &mut [u8],
-) -> BatchReply
+) -> Result<usize, BatchRefusal>
     ensures { batch_replies result out.new ≡ batch_call (limits_of limits)
         (record { output = length out.old; first = length a.old; second = length b.old; third = length c.old })
         table.now batch.now out.old }
 {
     if !is_permitted(limits) {
-        return BatchReply::Refused(18, 0);
+        return Err(BatchRefusal::from(Refusal::BadLimits));
     }
     if !have_room(out.len(), a.len(), b.len(), c.len()) {
-        return BatchReply::Refused(1, 0);
+        return Err(BatchRefusal::from(Refusal::SmallBuffer));
     }
-    let x = read_batch(batch);
-    // the table is read for the name of the first event's type; where the frame is bad, for any name, as question 2 asks for none
-    let name = type_name(event_part(batch, x, 0));
+    let frame = read_batch(batch);
+    let name = first_name(batch, frame);
     let mut properties = [0usize; 96];
-    let read = read_table(table, name, &mut properties);
-    if !read.ok {
-        return BatchReply::Refused(2, 0);
-    }
-    if !x.ok {
-        return BatchReply::Refused(9, 0);
-    }
-    let asked = ask_events(table, batch, x, name, read, &properties);
-    if asked.number != 0 {
-        return BatchReply::Refused(asked.number, asked.position);
-    }
-    batch_reply(combine_all(
-        limits,
-        table,
-        batch,
-        x,
-        read.index,
-        &properties,
-        out,
-        a,
-        b,
-        c,
-    ))
+    let found = read_table(table, name, &mut properties).ok_or(Refusal::BadTable)?;
+    let x = frame.ok_or(Refusal::BadBatch)?;
+    let t = ask_events(table, batch, x, name, found, &properties)?;
+    let n = combine_all(limits, table, batch, x, t, &properties, out, a, b, c)?;
+    Ok(n)
 }

@@ -17,7 +17,7 @@ use Rattle.model.specs.Sets.{up_to}
 use Rattle.model.specs.Limits.{Limits, Permitted, fits}
 use Rattle.model.proofs.Cases.{never}
 use Rattle.model.proofs.LimitLaws.{fits-bounds}
-use Rattle.packed.specs.Parse.{All, fail, got}
+use Rattle.packed.specs.Parse.{Parse, All, fail, got}
 use Rattle.packed.specs.Packed.{number, part}
 use Rattle.packed.specs.code.Written.{Wrote}
 use Rattle.packed.proofs.WriteLaws.{wrote-length, wrote-between, wrote_as, wrote_then}
@@ -33,12 +33,15 @@ use Rattle.event.specs.Head.{Head}
 use Rattle.event.specs.EventLayout.{narrow, event_of}
 use Rattle.event.specs.EventQuestions.{Typed}
 use Rattle.event.specs.code.EventIndex.{SetsAre, HeadIs, EventIs, EventReads}
+use Rattle.std.specs.Prelude.{Some, None}
+use Rattle.std.specs.Prelude as std
+use Rattle.std.specs.Option.{IsSome}
 use Rattle.event.specs.declared.head.HeadAt.{HeadAt}
 use Rattle.event.specs.declared.read.EventIndex.{EventIndex}
 use Rattle.dossier.specs.DossierBody.{read_snapshot, snapshot_bytes, body_bytes}
 use Rattle.dossier.specs.DossierHead.{read_dossier_head, dossier_head_bytes}
 use Rattle.dossier.specs.DossierLayout.{Headed, dossier_bytes}
-use Rattle.dossier.specs.code.DossierIndex.{no_snapshot, SnapshotAt, SnapshotIs, SnapshotStops, CellsAre, DossierHeadStops}
+use Rattle.dossier.specs.code.DossierIndex.{no_snapshot, SnapshotAt, SnapshotIs, SnapshotStops, CellsAre, DossierHeadStops, DossierHeadReads}
 use Rattle.dossier.specs.declared.snapshots.SnapshotNumbers.{SnapshotNumbers}
 use Rattle.dossier.proofs.VersionLaws.{cells_are}
 use Rattle.dossier.proofs.DossierBodyLaws.{SnapshotWritten, snapshot-read}
@@ -126,6 +129,12 @@ module _
 
 -- ---- a dossier that an event can be added to
 
+-- a head that is there
+pub head-stops :
+    {p : Parse Head} {s : List ℕ} {r : std.Option (HeadAt × ℕ)} {x : HeadAt × ℕ} → DossierHeadReads p s r → r ≡ Some x →
+    DossierHeadStops p s x.0 x.1
+head-stops {p} {s} w h = subst (DossierHeadReads p s) h w
+
 module _ {table sofar m event : List ℕ} {t : TypeIndex} {ps : List ℕ} (a : Addable table sofar m event t ps) where
   abbrev pub dossier : Headed
   dossier = a.both.left.headed
@@ -140,9 +149,12 @@ module _ {table sofar m event : List ℕ} {t : TypeIndex} {ps : List ℕ} (a : A
       let limits = a.both.limits in
       ap (read_dossier_head limits) is-dossier.0 ∙ dossier-head-read limits dossier.head (body_bytes dossier.snapshots) is-dossier.1.head
 
-  -- under the same limits
-  pub has-head : {limits : Limits} → a.both.limits ≡ limits → read_dossier_head limits sofar ≡ fail → ⊥
-  has-head u z = let both = sym head-is ∙ ap (λ (l : Limits). read_dossier_head l sofar) u ∙ z in never (cc)
+  -- r is what the reader of a head answers under the same limits
+  pub has-head :
+      {limits : Limits} → a.both.limits ≡ limits → (r : std.Option (HeadAt × ℕ)) →
+      DossierHeadReads (read_dossier_head limits sofar) sofar r → IsSome r
+  has-head u (Some x) w = refl
+  has-head u None w = let both = sym head-is ∙ ap (λ (l : Limits). read_dossier_head l sofar) u ∙ w in never (cc)
 
   pub measured-in : MeasuredIn sofar m
   unfolding dossier_bytes body_bytes
@@ -679,7 +691,9 @@ module _
 pub record ReadFor
     (limits : Limits) (sofar m event : List ℕ) (e : EventIndex) (ats : List ℕ) (x : HeadAt) (end : ℕ) (p : Place) (t : TypeIndex)
     (version : EventVersion) : Type 0 where
-  pub reads : EventReads (event_of narrow event) event ats e
+  pub found : std.Option EventIndex
+  pub reads : EventReads (event_of narrow event) event ats found
+  pub there : found ≡ Some e
   pub versioned : (h : Checkable event t ats) → version.0 ≡ version_of h.type h.event
   pub stops : DossierHeadStops (read_dossier_head limits sofar) sofar x end
   pub placed : (zs : List Snapshot) → Measured zs m → Splits zs version.0 p
@@ -692,10 +706,10 @@ module _
   a = h.added
 
   pub version-known : version.0 ≡ version_of a.new.event.type a.new.event.event
-  version-known = r.versioned (checkable (known-checked a.new r.reads))
+  version-known = r.versioned (checkable (known-checked a.new ats r.found r.reads r.there))
 
   abbrev pub is-adding : Adding table sofar m event e ats x (end + 1) p t ps
-  is-adding = adding a h.under r.stops (known_read a.new r.reads).1 (split_at a version-known r.placed)
+  is-adding = adding a h.under r.stops (known_read a.new ats r.found r.reads r.there) (split_at a version-known r.placed)
 
   pub permitted : Permitted limits
   permitted = subst Permitted h.under a.both.permitted

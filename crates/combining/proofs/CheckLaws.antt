@@ -1,7 +1,9 @@
 -- The laws of the call check an event.
 use mathlib.Core.Path.{◌≡◌, refl, sym, ap, ap₂, ◌∙◌, subst}
-use mathlib.Core.Bool.{true}
 use mathlib.Core.Option.{Option, none, some}
+use Rattle.std.specs.Prelude.{Some, Ok, Err}
+use Rattle.std.specs.Prelude as std
+use Rattle.std.specs.Option.{IsSome}
 use mathlib.Core.List.{List, [], ◌∷◌, ◌++◌, map, flatten, append-nil}
 use Prim.Native.Nat.{ℕ, ◌+◌, ◌-◌, ◌≤◌, ◌<◌}
 use native.Mathlib.Omega.{arith}
@@ -21,8 +23,9 @@ use Rattle.packed.proofs.WriteLaws.{wrote-between}
 use Rattle.replies.specs.Questions.{Asked, refused, accepted, ◌>>=◌, ask}
 use Rattle.replies.specs.Capacities.{dossier_capacity}
 use Rattle.replies.proofs.CapacityLaws.{has_room_lem, too_small}
-use Rattle.replies.specs.Replies.{replies}
-use Rattle.replies.specs.declared.reply.Reply.TheVariants.{Done, Refused}
+use Rattle.replies.specs.Replies.{refusal_number, replies}
+use Rattle.replies.specs.declared.reply.Refusal.{Refusal}
+use Rattle.replies.specs.declared.reply.Refusal.TheVariants.{SmallBuffer}
 use Rattle.ontology.specs.Table.{EventType, Table}
 use Rattle.ontology.specs.TableLayout.{table_of}
 use Rattle.ontology.specs.declared.types.TypeIndex.{TypeIndex}
@@ -30,12 +33,13 @@ use Rattle.ontology.proofs.TableLaws.{TypeKept, table-type, place_in}
 use Rattle.event.specs.Event.{Event, set_at, type_view, event_view, view, version_of, object_count}
 use Rattle.event.specs.EventLayout.{narrow, wide, event_of, presence_bit, bit_number, sets_bytes}
 use Rattle.event.specs.EventQuestions.{Typed, event_asked}
-use Rattle.event.specs.code.EventIndex.{event_questions, EventIs, EventReads, EventAsked}
+use Rattle.event.specs.code.EventIndex.{event_questions, EventIs, EventReads}
+use Rattle.event.specs.code.EventIndex as index
 use Rattle.event.specs.declared.read.EventIndex.{EventIndex}
 use Rattle.event.proofs.EventLayoutLaws.{EventWritten, written-larger, presence-below}
 use Rattle.event.proofs.EventSizeLaws.{sets-size, each_within, event-short}
 use Rattle.event.proofs.EventQuestionLaws.{EventAccepted, event-accepted, EventFits, event-fits, set-rises, least-few, version-set, version_below}
-use Rattle.event.proofs.AskLaws.{Accepted}
+use Rattle.event.proofs.EventReadLaws.{event-there}
 use Rattle.dossier.specs.DossierBody.{differ_bit, snapshot_bytes, body_bytes}
 use Rattle.dossier.specs.DossierLayout.{dossier_bytes, headed}
 use Rattle.dossier.specs.DossierHead.{dossier_head_bytes}
@@ -118,8 +122,9 @@ pub record Checked (table event : List ℕ) (t : TypeIndex) (x : EventIndex) (at
 
 -- so where it was asked
 abbrev pub asked-checked :
-    {table event ps ats : List ℕ} {r : EventAsked} → Accepted narrow table event ps ats r → Checked table event r.type r.event ats
-asked-checked a = record { type = a.type; e = a.e; is = a.is; mark = a.type-is.mark; read = a.event-is }
+    {table event ps ats : List ℕ} {t : TypeIndex} {x : EventIndex} →
+    index.EventAccepted (event_questions narrow table event) table event ps ats t x → Checked table event t x ats
+asked-checked a = record { type = a.what.type; e = a.what.event; is = a.is; mark = a.typed.mark; read = a.read }
 
 -- and where it is known to be accepted, once it is read
 abbrev pub taken-event :
@@ -133,17 +138,25 @@ taken-event {table} {event} k w = record {
   read = w;
 }
 
+-- r is what the reader of its bytes answers
 module _
     {table event : List ℕ} {t : TypeIndex} (k : KnownEvent table event t)
-    {ats : List ℕ} {x : EventIndex} (w : EventReads (event_of narrow event) event ats x) where
-  pub known_read : (x.ok ≡ true) × EventIs event k.event.event x ats
-  unfolding EventReads
-  known_read =
-      let a = event-accepted narrow k.types event k.event.type k.event.event k.asked in
-      subst (λ (o : Option Event). EventReads o event ats x) a.read w
+    (ats : List ℕ) (r : std.Option EventIndex) (w : EventReads (event_of narrow event) event ats r) where
+  there : (x : EventIndex) × (r ≡ Some x) × EventIs event k.event.event x ats
+  there =
+      event-there _ event ats r k.event.event (event-accepted narrow k.types event k.event.type k.event.event k.asked).read w
 
-  abbrev pub known-checked : Checked table event t x ats
-  known-checked = taken-event k known_read.1
+  pub known-some : IsSome r
+  known-some = rw there.1 refl
+
+  module _ {x : EventIndex} (h : r ≡ Some x) where
+    pub known_read : EventIs event k.event.event x ats
+    known_read =
+        let same : there.0 ≡ x = cc (there.1, h) in
+        subst (λ (y : EventIndex). EventIs event k.event.event y ats) same there.2
+
+    abbrev pub known-checked : Checked table event t x ats
+    known-checked = taken-event k known_read
 
 module _ {table event : List ℕ} {t : TypeIndex} {x : EventIndex} {ats : List ℕ} (a : Checked table event t x ats) where
   abbrev from : OfTable table event (record { type = a.type; event = a.e })
@@ -242,20 +255,20 @@ module _ (table event : List ℕ) (room : ℕ) where
 -- ---- the replies
 
 module _ (table event out : List ℕ) where
-  pub check-small : length out < dossier_capacity → replies (Refused 1) out ≡ check_call table event out
+  pub check-small : length out < dossier_capacity → replies (Err SmallBuffer) out ≡ check_call table event out
   unfolding check_call check_answer
   check-small h = rw (asked-small table event (length out) h)
 
   pub check-refused :
-      (n : ℕ) → dossier_capacity ≤ length out → event_questions narrow table event ≡ refused n →
-      replies (Refused n) out ≡ check_call table event out
+      (q : Refusal) → dossier_capacity ≤ length out → event_questions narrow table event ≡ refused (refusal_number q) →
+      replies (Err q) out ≡ check_call table event out
   unfolding check_call check_answer
-  check-refused n h e = rw (asked_of table event (length out) (refused n) h e)
+  check-refused q h e = rw (asked_of table event (length out) (refused (refusal_number q)) h e)
 
   pub check_done :
       {t : TypeIndex} {x : EventIndex} {ats : List ℕ} (a : Checked table event t x ats) (new : List ℕ) (n version : ℕ) →
       dossier_capacity ≤ length out →
-      version ≡ version_of a.type a.e → Wrote out 0 (lone_bytes a.e version) new n → replies (Done n) new ≡ check_call table event out
+      version ≡ version_of a.type a.e → Wrote out 0 (lone_bytes a.e version) new n → replies (Ok n) new ≡ check_call table event out
   unfolding check_call check_answer
   check_done a new n version h q w₀ =
       let x = dossier_bytes (event_dossier (record { type = a.type; event = a.e })) in
@@ -264,4 +277,4 @@ module _ (table event out : List ℕ) where
       let s : 0 + length x ≤ length out = omega (arith, lone-short a, ap length alone) in
       let m : n ≡ length x = omega (arith, w.after) in
       rw (asked_of table event (length out) (accepted (record { type = a.type; event = a.e })) h a.is)
-      (ap₂ (λ (k : ℕ) (l : List ℕ). replies (Done k) l) m (wrote-between s w ∙ ap (λ (k : ℕ). x ++ drop k out) m))
+      (ap₂ (λ (k : ℕ) (l : List ℕ). replies (Ok k) l) m (wrote-between s w ∙ ap (λ (k : ℕ). x ++ drop k out) m))

@@ -1,5 +1,5 @@
 // An event added to a dossier, which is known by its measures: the snapshots of other versions are copied as they stand, and at most one of them is read.
-ghost use Rattle.std.specs.Prelude.{ℕ, ◌+◌, ◌≤◌, ◌≡◌, false, cond, List, map, length, drop, leb};
+ghost use Rattle.std.specs.Prelude.{ℕ, ◌+◌, ◌≤◌, ◌≡◌, false, cond, List, map, length, drop, leb, Ok};
 ghost use Rattle.model.specs.Rule.{Snapshot, join_snapshots, sizes};
 ghost use Rattle.model.specs.Limits.{fits};
 ghost use Rattle.model.specs.Opening.{held};
@@ -8,7 +8,6 @@ ghost use Rattle.packed.specs.code.Written.{Wrote};
 ghost use Rattle.replies.specs.Capacities.{dossier_capacity};
 ghost use Rattle.replies.specs.ChosenLimits.{limits_of};
 ghost use Rattle.replies.specs.Replies.{replies};
-ghost use Rattle.replies.specs.declared.reply.Reply.TheVariants.{Done};
 ghost use Rattle.ontology.specs.Table.{EventType, is_versioned};
 ghost use Rattle.ontology.specs.code.TypeIndex.{PropertiesAre};
 ghost use Rattle.event.specs.Event.{type_view, version_of};
@@ -35,7 +34,7 @@ use packed::order::same;
 use packed::read::part_of;
 use packed::write::{copy, copy_part, write_number};
 use replies::limits::Limits;
-use replies::reply::Reply;
+use replies::reply::Refusal;
 use values::versions::EventVersion;
 
 // Where the snapshots that were written end, and how many bytes the one of the event's version has.
@@ -277,7 +276,7 @@ pub fn add_event<'a>(
     properties: &[usize],
     lone: &mut [u8],
     out: &mut [u8],
-) -> Reply
+) -> Result<usize, Refusal>
     requires addable_under { AddableUnder (limits_of limits) table.now sofar.now measures.old event.now t properties.now
         × (length properties.now ≡ 96) × (length measures.old ≡ 17) }
     requires dossier_capacity_in_bounds { (dossier_capacity ≤ length lone.old) × (dossier_capacity ≤ length out.old) }
@@ -285,23 +284,21 @@ pub fn add_event<'a>(
         → replies result out.new
         ≡ combine_call (limits_of limits) table.now sofar.now h.added.lone out.old }
     ensures measured { (h : AddableUnder (limits_of limits) table.now sofar.now measures.old event.now t properties.now)
-        (n : ℕ) → result ≡ Done n → Measured (combined h.added.both.left h.added.both.right).snapshots measures.new }
+        (n : ℕ) → result ≡ Ok n → Measured (combined h.added.both.left h.added.both.right).snapshots measures.new }
 {
     let mut sets = [0usize; 96];
-    let e = read_event(event, EventCounts::Narrow, &mut sets);
+    let e = read_event(event, EventCounts::Narrow, &mut sets).unwrap();
     let version = version_of(event, t, &sets);
-    let Some((x, after_head)) = read_dossier_head(sofar, limits) else {
-        return Reply::Refused(3);
-    };
+    let (x, after_head) = read_dossier_head(sofar, limits).unwrap();
     // the count of snapshots is one byte
     let body = after_head + 1;
     let p = place_of(sofar, measures, version);
     if !added_fits(
         limits, sofar, x, body, measures, p, event, e, &sets, t, properties,
     ) {
-        return Reply::Refused(8);
+        return Err(Refusal::OverLimits);
     }
-    Reply::Done(write_added(
+    Ok(write_added(
         sofar, x, body, measures, p, event, e, &sets, version, t, properties, lone, out,
     ))
 }

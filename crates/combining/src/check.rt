@@ -9,15 +9,14 @@ ghost use Rattle.combining.specs.code.AddIndex.{Measured};
 ghost use Rattle.combining.specs.code.CheckIndex.{Checkable, KnownEvent, AloneRoom, LoneRoom, alone_bytes, lone_bytes};
 
 use crate::measures::{Measure, measure_one};
-use event::ask::{ask_event, type_name};
+use event::ask::accept;
 use event::read::{EventCounts, EventIndex, read_event};
 use event::sets::{set_at, set_part, value_in};
 use event::write::write_sets;
-use ontology::tables::read_table;
 use ontology::types::TypeIndex;
 use packed::write::{copy_part, number_size, write_number};
 use replies::capacities::DOSSIER_CAPACITY;
-use replies::reply::Reply;
+use replies::reply::Refusal;
 use values::numerals::numeral_of;
 use values::versions::EventVersion;
 
@@ -83,23 +82,24 @@ fn write_lone(
 }
 
 // The dossier of an event, written at the front of `out`.
-pub fn check_event(table: &[u8], event: &[u8], out: &mut [u8]) -> Reply
+pub fn check_event(table: &[u8], event: &[u8], out: &mut [u8]) -> Result<usize, Refusal>
     ensures { replies result out.new ≡ check_call table.now event.now out.old }
 {
     if out.len() < DOSSIER_CAPACITY {
-        return Reply::Refused(1);
+        return Err(Refusal::SmallBuffer);
     }
     let mut properties = [0usize; 96];
     let mut sets = [0usize; 96];
-    let read = read_table(table, type_name(event), &mut properties);
-    let e = read_event(event, EventCounts::Narrow, &mut sets);
-    let number = ask_event(event, e, &sets, read, &properties);
-    if number != 0 {
-        return Reply::Refused(number);
-    }
-    let version = version_of(event, read.index, &sets);
+    let (t, e) = accept(
+        table,
+        event,
+        EventCounts::Narrow,
+        &mut properties,
+        &mut sets,
+    )?;
+    let version = version_of(event, t, &sets);
     let lone = write_lone(event, e, &sets, version, out);
-    Reply::Done(lone.end)
+    Ok(lone.end)
 }
 
 // The same of an event that is known to be accepted, with the type t; and the measures of its dossier.
@@ -109,17 +109,17 @@ pub fn check_known(
     t: TypeIndex,
     measures: &mut [usize],
     out: &mut [u8],
-) -> Reply
+) -> Result<usize, Refusal>
     requires { KnownEvent table.now event.now t × (length measures.old ≡ 17) × (dossier_capacity ≤ length out.old) }
     ensures out_after { replies result out.new ≡ check_call table.now event.now out.old }
     ensures measured { (k : KnownEvent table.now event.now t)
         → Measured (event_dossier k.event).snapshots measures.new }
 {
     let mut sets = [0usize; 96];
-    let known = read_event(event, EventCounts::Narrow, &mut sets);
+    let known = read_event(event, EventCounts::Narrow, &mut sets).unwrap();
     let version = version_of(event, t, &sets);
     let lone = write_lone(event, known, &sets, version, out);
     let size = lone.end - lone.start;
     measure_one(measures, Measure { version, size });
-    Reply::Done(lone.end)
+    Ok(lone.end)
 }

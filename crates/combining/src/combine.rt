@@ -1,28 +1,28 @@
-ghost use Rattle.std.specs.Prelude.{◌*◌, ◌≤◌, ◌≡◌, true, length};
+ghost use Rattle.std.specs.Prelude.{◌*◌, ◌≤◌, ◌≡◌, length, Some, IfOk};
 ghost use Rattle.std.proofs.Math.Option.{some};
 ghost use Rattle.model.specs.Limits.{Permitted};
 ghost use Rattle.replies.specs.Capacities.{dossier_capacity};
 ghost use Rattle.replies.specs.ChosenLimits.{limits_of};
-ghost use Rattle.replies.specs.Replies.{combine_replies};
+ghost use Rattle.replies.specs.Replies.{replies};
 ghost use Rattle.ontology.specs.Table.{Table};
 ghost use Rattle.ontology.specs.TableLayout.{table_of};
 ghost use Rattle.ontology.specs.code.TypeIndex.{TableSays};
-ghost use Rattle.dossier.specs.DossierLayout.{dossier_of};
 ghost use Rattle.dossier.specs.DossierQuestions.{dossier_asked};
-ghost use Rattle.dossier.specs.code.DossierIndex.{HasRows, DossierReads};
+ghost use Rattle.dossier.specs.code.DossierIndex.{HasRows};
 ghost use Rattle.combining.specs.CombineCall.{combine_call};
-ghost use Rattle.combining.specs.code.CombineIndex.{NumberIs, CombinableUnder};
+ghost use Rattle.combining.specs.code.CombineIndex.{OtherAnswers, CombinableUnder};
 
 use crate::limits::limits_fit;
 use crate::write::write_combined;
 use dossier::dossiers::{DossierIndex, read_dossier, snapshot_count};
-use dossier::questions::{ask_dossier, dossiers_agree, type_name};
-use ontology::tables::{TableRead, read_table};
+use dossier::questions::{accept, ask_dossier, dossiers_agree};
+use event::head::type_name;
+use ontology::tables::read_table;
 use ontology::types::TypeIndex;
 use packed::order::same;
 use replies::capacities::DOSSIER_CAPACITY;
 use replies::limits::{Limits, is_permitted};
-use replies::reply::Combined;
+use replies::reply::Refusal;
 
 // Question 8, and two dossiers of which the others are answered yes, written together at the front of `out`.
 fn combine_read<'a>(
@@ -37,17 +37,17 @@ fn combine_read<'a>(
     t: TypeIndex,
     properties: &[usize],
     out: &mut [u8],
-) -> Combined
+) -> Result<usize, Refusal>
     requires count_in_bounds { (96 * d.count ≤ length left.now) × (96 * e.count ≤ length right.now) × (length properties.now ≡ 96)
         × (dossier_capacity ≤ length out.old) }
     requires combinable_under { CombinableUnder (limits_of limits) table.now a.now d left.now b.now e right.now t properties.now }
-    ensures { combine_replies result out.new
+    ensures { replies result out.new
         ≡ combine_call (limits_of limits) table.now a.now b.now out.old }
 {
     if !limits_fit(limits, a, d, left, b, e, right, t, properties) {
-        return Combined::Refused(8);
+        return Err(Refusal::OverLimits);
     }
-    Combined::Done(write_combined(a, d, left, b, e, right, t, properties, out))
+    Ok(write_combined(a, d, left, b, e, right, t, properties, out))
 }
 
 // Questions 3 to 6 of a dossier. The table was read for a name, and is read again only where the dossier's type has another one.
@@ -56,23 +56,26 @@ fn ask_other(
     table: &[u8],
     name: &[u8],
     s: &[u8],
-    d: DossierIndex,
-    rows: &[usize],
-    read: TableRead,
+    rows: &mut [usize],
+    t: TypeIndex,
     properties: &[usize],
-) -> u8
-    requires count_in_bounds { (96 * d.count ≤ length rows.now) × (length properties.now ≡ 96)
-        × DossierReads (dossier_of (limits_of limits) s.now) s.now rows.now d }
-    requires ok_value { (read.ok ≡ true) × TableSays (table_of table.now) table.now name.now properties.now read }
-    ensures { (ts : Table) → table_of table.now ≡ some ts → NumberIs (dossier_asked (limits_of limits) ts s.now) result }
+) -> Result<DossierIndex, Refusal>
+    requires permitted { Permitted (limits_of limits) × HasRows (limits_of limits) s.now (length rows.old) × (length properties.now ≡ 96) }
+    requires says { TableSays (table_of table.now) table.now name.now properties.now (Some (Some t)) }
+    ensures answers { (ts : Table) → table_of table.now ≡ some ts → OtherAnswers (dossier_asked (limits_of limits) ts s.now) s.now rows.new result }
+    ensures within { IfOk result (λ (e : DossierIndex). 96 * e.count ≤ length rows.old) }
 {
-    let other = type_name(s, d);
+    let e = read_dossier(s, limits, rows).ok_or(Refusal::BadInput)?;
+    let other = type_name(s);
     if same(name, other) {
-        return ask_dossier(s, limits, d, rows, read, properties);
+        ask_dossier(s, limits, e, rows, t, properties)?;
+        return Ok(e);
     }
     let mut others = [0usize; 96];
-    let again = read_table(table, other, &mut others);
-    ask_dossier(s, limits, d, rows, again, &others)
+    let found = read_table(table, other, &mut others).flatten();
+    let u = found.ok_or(Refusal::UnknownType)?;
+    ask_dossier(s, limits, e, rows, u, &others)?;
+    Ok(e)
 }
 
 // Questions 2 to 8 of two dossiers whose rows are lent, and what they are together, written at the front of `out`.
@@ -84,31 +87,17 @@ fn combine_with<'a>(
     b: &'a [u8],
     right: &mut [usize],
     out: &mut [u8],
-) -> Combined
+) -> Result<usize, Refusal>
     requires permitted { Permitted (limits_of limits) × (dossier_capacity ≤ length out.old) }
     requires has_rows { HasRows (limits_of limits) a.now (length left.old) × HasRows (limits_of limits) b.now (length right.old) }
-    ensures { combine_replies result out.new
+    ensures { replies result out.new
         ≡ combine_call (limits_of limits) table.now a.now b.now out.old }
 {
-    let d = read_dossier(a, limits, left);
-    let e = read_dossier(b, limits, right);
-    let name = type_name(a, d);
     let mut properties = [0usize; 96];
-    let read = read_table(table, name, &mut properties);
-    if !read.ok {
-        return Combined::Refused(2);
-    }
-    let first = ask_dossier(a, limits, d, left, read, &properties);
-    if first != 0 {
-        return Combined::Refused(first);
-    }
-    let second = ask_other(limits, table, name, b, e, right, read, &properties);
-    if second != 0 {
-        return Combined::Refused(second);
-    }
-    let t = read.index;
+    let (t, d) = accept(table, a, limits, &mut properties, left)?;
+    let e = ask_other(limits, table, type_name(a), b, right, t, &properties)?;
     if !dossiers_agree(a, d, left, b, e, right, t.count, &properties) {
-        return Combined::Refused(7);
+        return Err(Refusal::Disagreement);
     }
     combine_read(limits, table, a, d, left, b, e, right, t, &properties, out)
 }
@@ -121,9 +110,9 @@ fn combine_left<'a>(
     left: &mut [usize],
     b: &'a [u8],
     out: &mut [u8],
-) -> Combined
+) -> Result<usize, Refusal>
     requires { Permitted (limits_of limits) × HasRows (limits_of limits) a.now (length left.old) × (dossier_capacity ≤ length out.old) }
-    ensures { combine_replies result out.new
+    ensures { replies result out.new
         ≡ combine_call (limits_of limits) table.now a.now b.now out.old }
 {
     if snapshot_count(b, limits) <= 1 {
@@ -141,15 +130,15 @@ pub fn combine<'a>(
     a: &'a [u8],
     b: &'a [u8],
     out: &mut [u8],
-) -> Combined
-    ensures { combine_replies result out.new
+) -> Result<usize, Refusal>
+    ensures { replies result out.new
         ≡ combine_call (limits_of limits) table.now a.now b.now out.old }
 {
     if !is_permitted(limits) {
-        return Combined::Refused(18);
+        return Err(Refusal::BadLimits);
     }
     if out.len() < DOSSIER_CAPACITY {
-        return Combined::Refused(1);
+        return Err(Refusal::SmallBuffer);
     }
     if snapshot_count(a, limits) <= 1 {
         let mut one = [0usize; 96];

@@ -1,7 +1,7 @@
 -- What is known of a dossier of which questions 3 to 6 are answered yes.
-use mathlib.Core.Path.{◌≡◌, sym, ◌∙◌, subst, refl, ap}
-use mathlib.Core.Bool.{Bool, true, ◌||◌, false}
-use mathlib.Core.Option.{some, Option, none}
+use mathlib.Core.Path.{◌≡◌, sym, ◌∙◌, subst, ap}
+use mathlib.Core.Bool.{Bool, true, ◌||◌}
+use mathlib.Core.Option.{some}
 use mathlib.Core.List.{List, [], ◌∷◌, map}
 use Prim.Native.Nat.{ℕ, zero, suc, ◌≤◌, ◌<◌}
 use native.Mathlib.Omega.{arith}
@@ -11,23 +11,26 @@ use Rattle.model.specs.Order.{Text}
 use Rattle.model.specs.Rule.{Snapshot, sizes, objects}
 use Rattle.model.specs.Limits.{Limits, Permitted}
 use Rattle.model.specs.Opening.{held}
-use Rattle.model.proofs.Cases.{and_parts, never}
+use Rattle.model.proofs.Cases.{and_parts}
 use Rattle.packed.proofs.LayoutLaws.{All}
-use Rattle.replies.specs.Questions.{accepted, ask, Asked, refused, ◌>>◌, ensure, ◌>>=◌}
+use Rattle.replies.specs.Questions.{accepted, ask, Asked, refused}
+use Rattle.replies.specs.Replies.{refusal_number}
+use Rattle.replies.specs.declared.reply.Refusal.{Refusal}
 use Rattle.replies.proofs.QuestionLaws.{asked-then, ask-some, ensured, accepted-same}
-use Rattle.ontology.specs.Table.{Table, is_versioned, type_named, EventType}
+use Rattle.ontology.specs.Table.{Table, is_versioned, type_named}
 use Rattle.ontology.specs.TableLayout.{table_of}
-use Rattle.ontology.specs.code.TypeIndex.{TypeIs}
 use Rattle.ontology.proofs.TableLaws.{TypeKept, table-type}
 use Rattle.ontology.proofs.TypeIndexLaws.{named-at}
 use Rattle.event.proofs.EventSizeLaws.{ValuesShort}
-use Rattle.dossier.specs.DossierLayout.{dossier_of, Headed}
+use Rattle.dossier.specs.DossierLayout.{dossier_of}
 use Rattle.dossier.specs.DossierQuestions.{each_snapshot, dossier_shape, snapshot_values, TypedDossier, dossier_asked}
-use Rattle.dossier.specs.code.DossierIndex.{no_snapshot, snapshot_fits, DossierAnswers}
+use Rattle.dossier.specs.code.DossierIndex.{no_snapshot, snapshot_fits, dossier_questions, DossierAccepted, DossierAnswers}
 use Rattle.ontology.specs.declared.types.TypeIndex.{TypeIndex}
+use Rattle.dossier.specs.declared.dossiers.DossierIndex.{DossierIndex}
 use Rattle.dossier.proofs.DossierLayoutLaws.{DossierWritten, dossier-was}
 use Rattle.dossier.proofs.DossierSizeLaws.{snapshots-short, versioned-sizes, shape-parts, shape-objects}
 use Rattle.dossier.proofs.AskLaws.{all_fit, alike_to, fits_with, shape_is}
+use Rattle.std.specs.Prelude.{Result, Ok, Err}
 
 pub record DossierTaken (limits : Limits) (types : Table) (s : List ℕ) (a : TypedDossier) : Type 0 where
   pub read : dossier_of limits s ≡ some a.headed
@@ -53,57 +56,28 @@ pub one_type :
 one_type {limits} {types} {r} {s} {a} {b} x y e =
     let q : some a.type ≡ some b.type = sym x.typed ∙ ap (λ (n : Text). type_named n types) e ∙ y.typed in cc
 
--- ---- what the caller of `ask_dossier` has
-
--- questions 5 and 6
-abbrev later : Limits → Headed → EventType → Asked TypedDossier
-later limits h t =
-    ensure 5 (dossier_shape limits t h.snapshots)
-    >> (ensure 6 (each_snapshot (snapshot_values t) h.snapshots) >> accepted (record { type = t; headed = h }))
-
--- no question has the number 0
-asked-number : (limits : Limits) (types : Table) (s : List ℕ) → dossier_asked limits types s ≡ refused 0 → ⊥
-unfolding dossier_asked
-asked-number limits types s e = at-layout (dossier_of limits s) e
-  where
-    at-shape : (a : TypedDossier) (x y : Bool) → (ensure 5 x >> (ensure 6 y >> accepted a)) ≡ refused 0 → ⊥
-    at-shape a false y e = never (cc)
-    at-shape a true false e = never (cc)
-    at-shape a true true e = never (cc)
-
-    at-type : (h : Headed) (o : Option EventType) → (ask 4 o >>= later limits h) ≡ refused 0 → ⊥
-    at-type h none e = never (cc)
-    at-type h (some t) e =
-        at-shape (record { type = t; headed = h }) (dossier_shape limits t h.snapshots) (each_snapshot (snapshot_values t) h.snapshots) e
-
-    at-layout : (o : Option Headed) → (ask 3 o >>= λ h. (ask 4 (type_named h.head.type types) >>= later limits h)) ≡ refused 0 → ⊥
-    at-layout none e = never (cc)
-    at-layout (some h) e = at-type h (type_named h.head.type types) e
-
--- all are answered yes, and the indexes are of the dossier and its type
-pub record Answered (limits : Limits) (types : Table) (table s : List ℕ) (t : TypeIndex) (ps : List ℕ) : Type 0 where
-  pub what : TypedDossier
-  pub asked : dossier_asked limits types s ≡ accepted what
-  pub typed : TypeIs table what.type t ps
+-- ---- what a caller of `accept` has, whose answer is r
 
 module _
-    (limits : Limits) (types : Table) (table s : List ℕ) (t : TypeIndex) (ps : List ℕ) (r : ℕ)
-    (w : DossierAnswers (dossier_asked limits types s) table t ps r) where
-  pub asked-refused : (r ≡ 0 → ⊥) → dossier_asked limits types s ≡ refused r
-  unfolding DossierAnswers
-  asked-refused h = go (dossier_asked limits types s) w
-    where
-      go : (q : Asked TypedDossier) → DossierAnswers q table t ps r → q ≡ refused r
-      go (refused n) w = ap refused (sym w)
-      go (accepted a) w = absurd (h w.0)
+    (p : Asked TypedDossier) (table s ps rows : List ℕ) (r : Result (TypeIndex × DossierIndex) Refusal) (w : DossierAnswers p table s ps rows r) where
+  pub asked-refused : {q : Refusal} → r ≡ Err q → p ≡ refused (refusal_number q)
+  asked-refused h = subst (DossierAnswers p table s ps rows) h w
 
-  pub asked-accepted : r ≡ 0 → Answered limits types table s t ps
-  unfolding DossierAnswers
-  asked-accepted h = go (dossier_asked limits types s) refl w
-    where
-      go : (q : Asked TypedDossier) → dossier_asked limits types s ≡ q → DossierAnswers q table t ps r → Answered limits types table s t ps
-      go (refused n) e w = absurd (asked-number limits types s (e ∙ ap refused (sym w ∙ h)))
-      go (accepted a) e w = record { what = a; asked = e; typed = w.1 }
+  pub asked-accepted : {t : TypeIndex} {d : DossierIndex} → r ≡ Ok (t, d) → DossierAccepted p table s ps rows t d
+  asked-accepted h = subst (DossierAnswers p table s ps rows) h w
+
+-- the table and the dossier, where question 2 is asked too
+pub record QuestionsTaken (limits : Limits) (table s : List ℕ) (a : TypedDossier) : Type 0 where
+  pub types : Table
+  pub is : table_of table ≡ some types
+  pub asked : dossier_asked limits types s ≡ accepted a
+  pub taken : DossierTaken limits types s a
+
+pub questions-taken :
+    (limits : Limits) (table s : List ℕ) (a : TypedDossier) → dossier_questions limits table s ≡ accepted a → QuestionsTaken limits table s a
+questions-taken limits table s a h =
+    let (ts, e, k) = asked-then (ask 2 (table_of table)) _ _ h in
+    record { types = ts; is = ask-some 2 (table_of table) ts e; asked = k; taken = dossier-taken limits ts s a k }
 
 -- ---- one of its snapshots, and all of them
 

@@ -1,97 +1,121 @@
--- The laws of questions 3 to 7 of dossiers.
+-- The laws of questions 2 to 7 of dossiers.
 use mathlib.Core.Path.{◌≡◌, refl, sym, ap, ap₂, ◌∙◌, subst}
 use mathlib.Core.Bool.{Bool, true, false, ◌&&◌}
-use mathlib.Core.Option.{Option, none, some}
+use mathlib.Core.Option.{none, some}
 use mathlib.Core.List.{List, [], ◌∷◌}
 use Prim.Native.Nat.{ℕ, ◌≤◌}
 use native.Mathlib.Omega.{arith}
 use lib.ListN.{length, get_or}
-use Rattle.model.specs.Order.{texts, sets, lists, equal}
+use Rattle.model.specs.Order.{Text, texts, sets, lists, equal}
 use Rattle.model.proofs.OrderLaws.{equal-true}
 use Rattle.model.specs.Rule.{Snapshot}
 use Rattle.model.specs.Limits.{Limits}
 use Rattle.model.proofs.Cases.{and_parts}
-use Rattle.replies.specs.Questions.{accepted, ◌>>◌, ensure}
+use Rattle.replies.specs.Questions.{Asked, refused, accepted, ◌>>◌, ensure}
 use Rattle.ontology.specs.Table.{EventType, Table, type_named}
 use Rattle.ontology.specs.TableLayout.{table_of}
-use Rattle.ontology.specs.code.TypeIndex.{TypeSays}
+use Rattle.ontology.specs.code.TypeIndex.{TypeSaid, TypeSays, TableSaid}
 use Rattle.ontology.specs.declared.types.TypeIndex.{TypeIndex}
-use Rattle.ontology.specs.declared.tables.TableRead.{TableRead}
-use Rattle.ontology.proofs.TypeIndexLaws.{type-absent, TypeFound, type-found}
+use Rattle.ontology.proofs.TypeIndexLaws.{type-absent, type-found}
 use Rattle.event.proofs.AskLaws.{table-kinds}
 use Rattle.event.specs.Agreement.{agree}
 use Rattle.dossier.specs.DossierLayout.{Headed, dossier_of}
-use Rattle.dossier.specs.DossierQuestions.{each_snapshot, snapshot_match, dossier_shape, snapshot_values, dossier_asked, dossier_match, dossiers_agree}
-use Rattle.dossier.specs.code.DossierIndex.{no_snapshot, RowsAre, DossierIs, DossierReads, DossierAnswers, shape_number}
+use Rattle.dossier.specs.DossierQuestions.{snapshot_match, dossier_shape, each_snapshot, snapshot_values, TypedDossier, dossier_asked}
+use Rattle.dossier.specs.DossierQuestions.{dossier_match, dossiers_agree}
+use Rattle.dossier.specs.code.DossierIndex.{no_snapshot, DossierStands, DossierReads, shape_asked, dossier_questions, DossierAccepted}
 use Rattle.dossier.specs.declared.dossiers.DossierIndex.{DossierIndex}
-use Rattle.dossier.proofs.AskLaws.{Each, dossier_number}
+use Rattle.dossier.proofs.AskLaws.{Each, asked_all}
+use Rattle.dossier.proofs.DossierReadLaws.{dossier-absent, dossier-known}
+use Rattle.std.specs.Prelude.{Some, None}
+use Rattle.std.specs.Prelude as std
 
--- ---- questions 3 to 6
+-- ---- questions 3 to 6, under a table that was read
 
-pub record Known (o : Option Headed) (s rows : List ℕ) (d : DossierIndex) : Type 0 where
-  pub what : Headed
-  pub is : o ≡ some what
-  pub stands : DossierIs s what d
-  pub in_rows : RowsAre s what.snapshots rows
+shape-then : {A : Type 0} (a b : Bool) (p : Asked A) → (ensure 5 a >> (ensure 6 b >> p)) ≡ (shape_asked a b >> p)
+shape-then false b p = refl
+shape-then true b p = refl
 
-pub dossier-known : (o : Option Headed) (s rows : List ℕ) (d : DossierIndex) → DossierReads o s rows d → d.ok ≡ true → Known o s rows d
-unfolding DossierReads
-dossier-known none s rows d w h = let z : ◌≡◌ {A = ℕ} 0 1 = cc in absurd (omega arith)
-dossier-known (some h) s rows d w e = record { what = h; is = refl; stands = w.1; in_rows = w.2 }
-
-dossier-no : (o : Option Headed) (s rows : List ℕ) (d : DossierIndex) → DossierReads o s rows d → d.ok ≡ false → o ≡ none
-unfolding DossierReads
-dossier-no none s rows d w h = refl
-dossier-no (some h) s rows d w e = let z : ◌≡◌ {A = ℕ} 0 1 = cc w.0 in absurd (omega arith)
-
--- the dossier that was read stands as its index says
-pub reads-is :
-    (limits : Limits) (s rows : List ℕ) (d : DossierIndex) (h : Headed) → DossierReads (dossier_of limits s) s rows d → dossier_of limits s ≡ some h →
-    DossierIs s h d × RowsAre s h.snapshots rows
-unfolding DossierReads
-reads-is limits s rows d h w e = let r = subst (λ (o : Option Headed). DossierReads o s rows d) e w in (r.1, r.2)
-
--- a dossier has 8 snapshots at most
-pub reads-few : (o : Option Headed) (s rows : List ℕ) (d : DossierIndex) → DossierReads o s rows d → d.ok ≡ true → d.count ≤ 8
-reads-few o s rows d w h = (dossier-known o s rows d w h).stands.few
-
+-- r is what the reader of the dossier answers
 module _
-    (limits : Limits) (table : List ℕ) (ts : Table) (s rows : List ℕ) (d : DossierIndex) (w : DossierReads (dossier_of limits s) s rows d) where
-  pub answer-layout : d.ok ≡ false → (k : TypeIndex) (ps : List ℕ) → DossierAnswers (dossier_asked limits ts s) table k ps 3
-  unfolding dossier_asked DossierAnswers
-  answer-layout h k ps = let e : dossier_of limits s ≡ none = dossier-no (dossier_of limits s) s rows d w h in rw e refl
+    (limits : Limits) (table : List ℕ) (ts : Table) (s rows : List ℕ) {r : std.Option DossierIndex}
+    (w : DossierReads (dossier_of limits s) s rows r) where
+  pub answer-layout : r ≡ None → dossier_asked limits ts s ≡ refused 3
+  unfolding dossier_asked
+  answer-layout h = rw (dossier-absent _ s rows r w h)
 
-  module _ (ok : d.ok ≡ true) where
-    it : Known (dossier_of limits s) s rows d
-    it = dossier-known (dossier_of limits s) s rows d w ok
+  module _ {d : DossierIndex} (there : r ≡ Some d) where
+    it : DossierStands (dossier_of limits s) s rows d
+    it = dossier-known _ s rows r w there
 
-    module _ (ps : List ℕ) (read : TableRead) (says : (h : Headed) → DossierIs s h d → TypeSays (type_named h.head.type ts) table ps read) where
-      pub answer-type : read.found ≡ false → (k : TypeIndex) → DossierAnswers (dossier_asked limits ts s) table k ps 4
-      unfolding dossier_asked DossierAnswers
-      answer-type h k =
-          let absent = type-absent (type_named it.what.head.type ts) table ps read (says it.what it.stands) h in
-          let e : type_named it.what.head.type ts ≡ none = absent in
-          rw (it.is, e) refl
+    -- what the table has of the dossier's type
+    module _
+        (ps : List ℕ) {found : std.Option TypeIndex}
+        (says : (h : Headed) → dossier_of limits s ≡ some h → TypeSays (type_named h.head.type ts) table ps found) where
+      pub answer-type : found ≡ None → dossier_asked limits ts s ≡ refused 4
+      unfolding dossier_asked
+      answer-type h = rw (it.is, type-absent _ table ps found (says it.what it.is) h)
 
-      module _ (e : table_of table ≡ some ts) (f : read.found ≡ true) where
-        type : TypeFound (type_named it.what.head.type ts) table ps read
-        type = type-found (type_named it.what.head.type ts) table ps read (says it.what it.stands) f
+      -- the type is there
+      module _ {t : TypeIndex} (typed : found ≡ Some t) (e : table_of table ≡ some ts) where
+        type : TypeSaid (type_named it.what.head.type ts) table ps t
+        type = type-found _ table ps found (says it.what it.is) typed
 
-        pub answer-rest :
-            (n : ℕ) → Each s d rows read.index ps (λ ty ss. n ≡ dossier_number limits ty ss) →
-            DossierAnswers (dossier_asked limits ts s) table read.index ps n
-        unfolding dossier_asked DossierAnswers shape_number
-        answer-rest n a =
+        abbrev taken : TypedDossier
+        taken = record { type = type.what; headed = it.what }
+
+        -- and a is what questions 5 and 6 come to
+        rest : {a : Asked (Unit {0})} → Each s d rows t ps (λ ty ss. a ≡ asked_all limits ty ss) → dossier_asked limits ts s ≡ (a >> accepted taken)
+        unfolding dossier_asked
+        rest told =
+            let kinds = table-kinds table ts it.what.head.type type.what e type.is in
             rw (it.is, type.is)
-            (go (dossier_shape limits type.what it.what.snapshots) (each_snapshot (snapshot_values type.what) it.what.snapshots)
-            (a table type.what it.what type.stands (table-kinds table ts it.what.head.type type.what e type.is) it.stands it.in_rows))
-          where
-            go :
-                (x y : Bool) → n ≡ shape_number x y →
-                DossierAnswers (ensure 5 x >> (ensure 6 y >> accepted (record { type = type.what; headed = it.what }))) table read.index ps n
-            go false y h = h
-            go true false h = h
-            go true true h = (h, type.stands)
+            (shape-then (dossier_shape limits type.what it.what.snapshots) (each_snapshot (snapshot_values type.what) it.what.snapshots)
+            (accepted taken)
+            ∙ ap (λ (b : Asked (Unit {0})). b >> accepted taken) (sym (told table type.what it.what type.typed kinds it.stands it.in_rows)))
+
+        pub answer-refused : {n : ℕ} → Each s d rows t ps (λ ty ss. refused n ≡ asked_all limits ty ss) → dossier_asked limits ts s ≡ refused n
+        answer-refused told = rest told
+
+        pub answer-accepted :
+            Each s d rows t ps (λ ty ss. accepted tt ≡ asked_all limits ty ss) → DossierAccepted (dossier_asked limits ts s) table s ps rows t d
+        answer-accepted told = record { what = taken; is = rest told; typed = type.typed; read = it.stands; in_rows = it.in_rows }
+
+-- ---- questions 2 to 6
+
+pub questions-table : (limits : Limits) (table s : List ℕ) → table_of table ≡ none → dossier_questions limits table s ≡ refused 2
+questions-table limits table s e = rw e
+
+-- the table was read for a name
+module _
+    (limits : Limits) (s : List ℕ) {table : List ℕ} {name : Text} {ps : List ℕ} {found : std.Option TypeIndex}
+    (said : TableSaid (table_of table) table name ps found) where
+  pub questions-are : dossier_questions limits table s ≡ dossier_asked limits said.what s
+  questions-are = rw said.is
+
+  -- that of the dossier's type
+  pub says-typed :
+      ((h : Headed) → dossier_of limits s ≡ some h → name ≡ h.head.type) →
+      (h : Headed) → dossier_of limits s ≡ some h → TypeSays (type_named h.head.type said.what) table ps found
+  says-typed named h e = subst (λ (n : Text). TypeSays (type_named n said.what) table ps found) (named h e) said.says
+
+  module _ (rows : List ℕ) {r : std.Option DossierIndex} (w : DossierReads (dossier_of limits s) s rows r) where
+    pub questions-layout : r ≡ None → dossier_questions limits table s ≡ refused 3
+    questions-layout h = questions-are ∙ answer-layout limits table said.what s rows w h
+
+    module _ (named : (h : Headed) → dossier_of limits s ≡ some h → name ≡ h.head.type) {d : DossierIndex} (there : r ≡ Some d) where
+      pub questions-type : found ≡ None → dossier_questions limits table s ≡ refused 4
+      questions-type h = questions-are ∙ answer-type limits table said.what s rows w there ps (says-typed named) h
+
+      module _ {t : TypeIndex} (typed : found ≡ Some t) where
+        pub questions-refused :
+            {n : ℕ} → Each s d rows t ps (λ ty ss. refused n ≡ asked_all limits ty ss) → dossier_questions limits table s ≡ refused n
+        questions-refused told = questions-are ∙ answer-refused limits table said.what s rows w there ps (says-typed named) typed said.is told
+
+        pub questions-accepted :
+            Each s d rows t ps (λ ty ss. accepted tt ≡ asked_all limits ty ss) → DossierAccepted (dossier_questions limits table s) table s ps rows t d
+        questions-accepted told =
+            subst (λ (p : Asked TypedDossier). DossierAccepted p table s ps rows t d) (sym questions-are)
+            (answer-accepted limits table said.what s rows w there ps (says-typed named) typed said.is told)
 
 -- ---- question 7
 

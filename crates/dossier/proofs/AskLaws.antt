@@ -1,6 +1,5 @@
 -- The laws of questions 5 and 6 of all snapshots.
 use mathlib.Core.Path.{◌≡◌, refl, sym, ap, ap₂, ◌∙◌, subst}
-use mathlib.Core.Logic.{◌⊎◌, inl, inr, ⊎_elim}
 use mathlib.Core.Bool.{Bool, true, false, cond, not, ◌&&◌, ◌||◌}
 use mathlib.Core.List.{List, [], ◌∷◌, map}
 use Prim.Native.Nat.{ℕ, ◌+◌, ◌-◌, ◌≤◌, ◌<◌}
@@ -14,8 +13,13 @@ use Rattle.model.proofs.OrderLaws.{equal-true}
 use Rattle.model.specs.Rule.{Cell, holds, Snapshot, sizes}
 use Rattle.model.specs.Limits.{Limits}
 use Rattle.model.specs.Opening.{held, is_mark, cell_at}
-use Rattle.model.proofs.Cases.{and-false, and-true}
+use Rattle.model.proofs.Cases.{and-false, and-true, never}
 use Rattle.values.specs.declared.versions.EventVersion.{EventVersion}
+use Rattle.replies.specs.Questions.{Asked, refused, accepted, ◌>>◌, ensure}
+use Rattle.replies.specs.Replies.{refusal_number}
+use Rattle.replies.specs.declared.reply.Refusal.{Refusal}
+use Rattle.replies.specs.declared.reply.Refusal.TheVariants.{SmallBuffer, BadTable, BadInput, UnknownType, BadShape}
+use Rattle.replies.specs.declared.reply.Refusal.TheVariants.{BadValue, Disagreement, OverLimits, BadBatch, BadLimits}
 use Rattle.ontology.specs.Table.{Property, EventType, is_versioned}
 use Rattle.ontology.specs.code.TypeIndex.{PropertiesAre, TypeIs}
 use Rattle.ontology.specs.declared.types.TypeIndex.{TypeIndex}
@@ -28,7 +32,7 @@ use Rattle.dossier.specs.DossierQuestions.{each_cell, each_snapshot, is_vacant, 
 use Rattle.dossier.specs.DossierQuestions.{unversioned_snapshot, unversioned_shape, holds_version, versioned_snapshot, snapshot_match, match_fits, match_alike}
 use Rattle.dossier.specs.DossierQuestions.{dossier_shape, snapshot_values}
 use Rattle.dossier.specs.code.DossierIndex.{SnapshotIs, no_snapshot, no_version, row_of, RowsAre, DossierIs, cell_fits, version_fits, snapshot_fits}
-use Rattle.dossier.specs.code.DossierIndex.{shape_number, MasksAre}
+use Rattle.dossier.specs.code.DossierIndex.{shape_asked, MasksAre}
 use Rattle.dossier.specs.declared.shape.ShapeMasks.{ShapeMasks}
 use Rattle.dossier.specs.declared.snapshots.SnapshotNumbers.{SnapshotNumbers}
 use Rattle.dossier.specs.declared.dossiers.DossierIndex.{DossierIndex}
@@ -177,121 +181,129 @@ module _ (limits : Limits) (t : EventType) (ss : List Snapshot) where
   unfolding dossier_shape
   shape_is = by-version (is_versioned t) refl
 
--- ---- the number of a snapshot's answer
+-- ---- questions 5 and 6 of a snapshot
 
--- the number of a snapshot y, where the first one has the sets xs
 abbrev match_like : EventType → List (List Text) → Snapshot → Bool
 match_like ty xs y = equal (lists sets) (match_sets ty.properties xs) (snapshot_match ty y)
 
-abbrev pub snapshot_number : Limits → EventType → List (List Text) → Snapshot → ℕ
-snapshot_number limits ty xs y = shape_number (snapshot_fits limits ty y && match_like ty xs y) (snapshot_values ty y)
-
--- and where its shape is right
-abbrev pub values_number : Bool → ℕ
-values_number right = shape_number true right
+-- what they come to of a snapshot y, where the first one has the sets xs
+abbrev pub snapshot_asked : Limits → EventType → List (List Text) → Snapshot → Asked (Unit {0})
+snapshot_asked limits ty xs y = shape_asked (snapshot_fits limits ty y && match_like ty xs y) (snapshot_values ty y)
 
 module _ (limits : Limits) (ty : EventType) (xs : List (List Text)) (y : Snapshot) where
-  pub number-shape : {r : Bool} → r ≡ false → r ≡ snapshot_fits limits ty y → 5 ≡ snapshot_number limits ty xs y
-  unfolding shape_number
-  number-shape h e = sym (ap (λ (b : Bool). shape_number (b && match_like ty xs y) (snapshot_values ty y)) (sym e ∙ h))
+  pub asked-shape : {r : Bool} → r ≡ false → r ≡ snapshot_fits limits ty y → refused 5 ≡ snapshot_asked limits ty xs y
+  asked-shape h e = sym (ap (λ (b : Bool). shape_asked (b && match_like ty xs y) (snapshot_values ty y)) (sym e ∙ h))
 
-  pub number-match : {r : Bool} → r ≡ false → r ≡ match_like ty xs y → 5 ≡ snapshot_number limits ty xs y
-  unfolding shape_number
-  number-match h e =
-      sym (ap (λ (b : Bool). shape_number (snapshot_fits limits ty y && b) (snapshot_values ty y)) (sym e ∙ h)
-      ∙ ap (λ (b : Bool). shape_number b (snapshot_values ty y)) (and-false (snapshot_fits limits ty y)))
+  pub asked-match : {r : Bool} → r ≡ false → r ≡ match_like ty xs y → refused 5 ≡ snapshot_asked limits ty xs y
+  asked-match h e =
+      sym (ap (λ (b : Bool). shape_asked (snapshot_fits limits ty y && b) (snapshot_values ty y)) (sym e ∙ h)
+      ∙ ap (λ (b : Bool). shape_asked b (snapshot_values ty y)) (and-false (snapshot_fits limits ty y)))
 
   -- where neither refuses, the values decide
-  pub number-values :
-      {a b r : Bool} → a ≡ snapshot_fits limits ty y → a ≡ true → b ≡ match_like ty xs y → b ≡ true → r ≡ snapshot_values ty y →
-      values_number r ≡ snapshot_number limits ty xs y
-  number-values e h g k n =
-      sym (ap₂ (λ (a b : Bool). shape_number (a && b) (snapshot_values ty y)) (sym e ∙ h) (sym g ∙ k) ∙ ap values_number (sym n))
+  pub asked-values :
+      {a b r d : Bool} → a ≡ snapshot_fits limits ty y → a ≡ true → b ≡ match_like ty xs y → b ≡ true →
+      r ≡ snapshot_values ty y → r ≡ d → ensure 6 d ≡ snapshot_asked limits ty xs y
+  asked-values e h g k n f =
+      sym (ap₂ (λ (a b : Bool). shape_asked (a && b) (snapshot_values ty y)) (sym e ∙ h) (sym g ∙ k) ∙ ap (ensure 6) (sym n ∙ f))
 
-pub values-right : {r : Bool} → r ≡ true → 0 ≡ values_number r
-unfolding shape_number
-values-right e = rw e
+-- ---- questions 5 and 6 of all snapshots
 
-pub values-wrong : {r : Bool} → r ≡ false → 6 ≡ values_number r
-unfolding shape_number
-values-wrong e = rw e
+-- what they come to of snapshot j, and of all of them
+abbrev pub asked_at : Limits → EventType → List Snapshot → ℕ → Asked (Unit {0})
+asked_at limits t ss j =
+    let y = get_or ss j no_snapshot in
+    shape_asked (fits_with limits t (get_or ss 0 no_snapshot) y) (snapshot_values t y)
 
--- ---- the numbers of all snapshots
+abbrev pub asked_all : Limits → EventType → List Snapshot → Asked (Unit {0})
+asked_all limits t ss = shape_asked (dossier_shape limits t ss) (each_snapshot (snapshot_values t) ss)
 
-five : (a b : Bool) → shape_number a b ≡ 5 → a ≡ false
-unfolding shape_number
+-- what the answer so far and the snapshots from j on come to
+abbrev asked_from : Limits → EventType → List Snapshot → Asked (Unit {0}) → ℕ → Asked (Unit {0})
+asked_from limits t ss answer j =
+    ensure 5 (all_fit limits t ss (drop j ss)) >> (answer >> ensure 6 (each_snapshot (snapshot_values t) (drop j ss)))
+
+abbrev sixth : Asked (Unit {0})
+sixth = refused 6
+
+-- one refusal has the number 5
+shape-number : (q : Refusal) → refusal_number q ≡ 5 → q ≡ BadShape
+shape-number SmallBuffer e = absurd (omega (arith, e))
+shape-number BadTable e = absurd (omega (arith, e))
+shape-number BadInput e = absurd (omega (arith, e))
+shape-number UnknownType e = absurd (omega (arith, e))
+shape-number BadShape e = refl
+shape-number BadValue e = absurd (omega (arith, e))
+shape-number Disagreement e = absurd (omega (arith, e))
+shape-number OverLimits e = absurd (omega (arith, e))
+shape-number BadBatch e = absurd (omega (arith, e))
+shape-number BadLimits e = absurd (omega (arith, e))
+
+-- what is known of a snapshot by its answer
+fine : (a b : Bool) → accepted tt ≡ shape_asked a b → (a ≡ true) × (b ≡ true)
+fine false b e = never (cc)
+fine true false e = never (cc)
+fine true true e = (refl, refl)
+
+five : (a b : Bool) → refused 5 ≡ shape_asked a b → a ≡ false
 five false b e = refl
-five true false e = absurd (omega arith)
-five true true e = absurd (omega arith)
+five true false e = let z : ◌≡◌ {A = ℕ} 5 6 = cc in absurd (omega arith)
+five true true e = never (cc)
 
--- the number of snapshot j, and of all of them
-abbrev pub number_of : Limits → EventType → List Snapshot → ℕ → ℕ
-number_of limits t ss j = shape_number (fits_with limits t (get_or ss 0 no_snapshot) (get_or ss j no_snapshot)) (snapshot_values t (get_or ss j no_snapshot))
+six : (n : ℕ) (a b : Bool) → refused n ≡ shape_asked a b → (n ≡ 5 → ⊥) → (n ≡ 6) × (a ≡ true) × (b ≡ false)
+six n false b e ne = absurd (ne (cc))
+six n true false e ne = (cc, refl, refl)
+six n true true e ne = never (cc)
 
-abbrev pub dossier_number : Limits → EventType → List Snapshot → ℕ
-dossier_number limits t ss = shape_number (dossier_shape limits t ss) (each_snapshot (snapshot_values t) ss)
-
--- what the numbers so far and the snapshots from j on come to
-abbrev number_from : Limits → EventType → List Snapshot → ℕ → ℕ → ℕ
-number_from limits t ss number j = shape_number (all_fit limits t ss (drop j ss)) (eqb number 0 && each_snapshot (snapshot_values t) (drop j ss))
-
-module _ (limits : Limits) (t : EventType) (ss : List Snapshot) (number j : ℕ) (l : j < length ss) where
+module _ (limits : Limits) (t : EventType) (ss : List Snapshot) (answer : Asked (Unit {0})) (j : ℕ) (l : j < length ss) where
   abbrev one : Snapshot
   one = get_or ss j no_snapshot
 
   abbrev fitting : Snapshot → Bool
   fitting = fits_with limits t (get_or ss 0 no_snapshot)
 
+  -- whether those after it fit, and their values
+  abbrev fit-after : Bool
+  fit-after = all_fit limits t ss (drop (j + 1) ss)
+
+  abbrev values-after : Bool
+  values-after = each_snapshot (snapshot_values t) (drop (j + 1) ss)
+
   step : (f : Snapshot → Bool) → each_snapshot f (drop j ss) ≡ (f one && each_snapshot f (drop (j + 1) ss))
   unfolding each_snapshot
   step f = rw (drop-cons ss j no_snapshot l, add-one)
 
-  fit-step : {b : Bool} → fitting one ≡ b → all_fit limits t ss (drop j ss) ≡ (b && all_fit limits t ss (drop (j + 1) ss))
-  fit-step e = step fitting ∙ ap (λ (x : Bool). x && all_fit limits t ss (drop (j + 1) ss)) e
+  asked-step :
+      {a b : Bool} → fitting one ≡ a → snapshot_values t one ≡ b →
+      asked_from limits t ss answer j ≡ (ensure 5 (a && fit-after) >> (answer >> ensure 6 (b && values-after)))
+  asked-step e f =
+      ap₂ (λ (x y : Bool). ensure 5 x >> (answer >> ensure 6 y)) (step fitting ∙ ap (λ (x : Bool). x && fit-after) e)
+      (step (snapshot_values t) ∙ ap (λ (x : Bool). x && values-after) f)
 
-  module _ (n : ℕ) (e : n ≡ number_of limits t ss j) where
-    from-five : n ≡ 5 → 5 ≡ number_from limits t ss number j
-    unfolding shape_number
-    from-five h =
-        sym (ap (λ (a : Bool). shape_number a (eqb number 0 && each_snapshot (snapshot_values t) (drop j ss)))
-        (fit-step (five (fitting one) (snapshot_values t one) (sym e ∙ h))))
+  from-fine : accepted tt ≡ asked_at limits t ss j → asked_from limits t ss answer j ≡ asked_from limits t ss answer (j + 1)
+  from-fine e = let g = fine (fitting one) (snapshot_values t one) e in asked-step g.0 g.1
 
-    last_of : {m : ℕ} → n ≡ m → cond (eqb n 6) 6 number ≡ cond (eqb m 6) 6 number
-    last_of h = ap (λ (m : ℕ). cond (eqb m 6) 6 number) h
+  from-five : refused 5 ≡ asked_at limits t ss j → refused 5 ≡ asked_from limits t ss answer j
+  from-five e = sym (asked-step (five (fitting one) (snapshot_values t one) e) refl)
 
-    module _ (ne : n ≡ 5 → ⊥) where
-      fits : (a b : Bool) → n ≡ shape_number a b → (a ≡ true) × (cond (eqb n 6) 6 number ≡ cond b number 6)
-      unfolding shape_number
-      fits false b h = absurd (ne h)
-      fits true false h = (refl, last_of h)
-      fits true true h = (refl, last_of h)
+  from-six :
+      (n : ℕ) → refused n ≡ asked_at limits t ss j → (n ≡ 5 → ⊥) → (answer >> sixth) ≡ sixth →
+      asked_from limits t ss answer j ≡ asked_from limits t ss (refused n) (j + 1)
+  from-six n e ne h =
+      let g = six n (fitting one) (snapshot_values t one) e ne in
+      asked-step g.1 g.2 ∙ ap (λ (a : Asked (Unit {0})). ensure 5 fit-after >> a) (h ∙ ap refused (sym g.0))
 
-      none : (b x : Bool) → (eqb number 0 && (b && x)) ≡ (eqb (cond b number 6) 0 && x)
-      none true x = refl
-      none false x = and-false (eqb number 0)
+  is-sixth : (n : ℕ) → refused n ≡ asked_at limits t ss j → (n ≡ 5 → ⊥) → ◌≡◌ {A = Asked (Unit {0})} (refused n) sixth
+  is-sixth n e ne = ap refused (six n (fitting one) (snapshot_values t one) e ne).0
 
-      from_more : {r : ℕ} → r ≡ cond (eqb n 6) 6 number → number_from limits t ss number j ≡ number_from limits t ss r (j + 1)
-      from_more {r} h =
-          let g = fits (fitting one) (snapshot_values t one) e in
-          let rest = each_snapshot (snapshot_values t) (drop (j + 1) ss) in
-          ap₂ (λ (x y : Bool). shape_number x (eqb number 0 && y)) (fit-step g.0) (step (snapshot_values t))
-          ∙ ap (shape_number (all_fit limits t ss (drop (j + 1) ss)))
-          (none (snapshot_values t one) rest ∙ ap (λ (m : ℕ). eqb m 0 && rest) (sym (h ∙ g.1)))
-
-kept : (n number : ℕ) {r : ℕ} → r ≡ cond (eqb n 6) 6 number → (number ≡ 0) ⊎ (number ≡ 6) → (r ≡ 0) ⊎ (r ≡ 6)
-kept n number {r} h o = go (eqb n 6) h
-  where
-    go : (b : Bool) → r ≡ cond b 6 number → (r ≡ 0) ⊎ (r ≡ 6)
-    go true e = inr e
-    go false e = ⊎_elim (λ (z : number ≡ 0). inl (e ∙ z)) (λ (z : number ≡ 6). inr (e ∙ z)) o
+then-accepted : (a : Asked (Unit {0})) → (a >> accepted tt) ≡ a
+then-accepted (refused n) = refl
+then-accepted (accepted u) = refl
 
 from_end :
-    (limits : Limits) (t : EventType) (ss : List Snapshot) (number j : ℕ) → length ss ≤ j → (number ≡ 0) ⊎ (number ≡ 6) →
-    number ≡ number_from limits t ss number j
-unfolding each_snapshot shape_number
-from_end limits t ss number j l o =
-    let d = drop_of_length-le ss l in
-    ⊎_elim (λ (z : number ≡ 0). rw (z, d)) (λ (z : number ≡ 6). rw (z, d)) o
+    (limits : Limits) (t : EventType) (ss : List Snapshot) (answer : Asked (Unit {0})) (j : ℕ) → length ss ≤ j →
+    asked_from limits t ss answer j ≡ answer
+unfolding each_snapshot
+from_end limits t ss answer j l = rw (drop_of_length-le ss l) (then-accepted answer)
 
 -- ---- the dossier's snapshots
 
@@ -341,11 +353,11 @@ module _ (s : List ℕ) (h : Headed) (d : DossierIndex) (w : DossierIs s h d) wh
       (limits : Limits) (u : List ℕ) (ty : EventType) (t : TypeIndex) (ps : List ℕ) → TypeIs u ty t ps → {r b : Bool} →
       r ≡ (ltb 0 t.mark || eqb d.count 1) →
       r ≡ b →
-      dossier_number limits ty h.snapshots ≡ shape_number (b && all_fit limits ty h.snapshots h.snapshots)
+      asked_all limits ty h.snapshots ≡ shape_asked (b && all_fit limits ty h.snapshots h.snapshots)
       (each_snapshot (snapshot_values ty) h.snapshots)
   by-lone limits u ty t ps v e f =
       let lone = e ∙ ap₂ (λ (m n : ℕ). ltb 0 m || eqb n 1) v.mark w.count in
-      ap (λ (b : Bool). shape_number b (each_snapshot (snapshot_values ty) h.snapshots))
+      ap (λ (b : Bool). shape_asked b (each_snapshot (snapshot_values ty) h.snapshots))
       (shape_is limits ty h.snapshots ∙ ap (λ (b : Bool). b && all_fit limits ty h.snapshots h.snapshots) (sym lone ∙ f))
 
 -- ---- questions 5 and 6 of a dossier
@@ -356,40 +368,55 @@ Each s d rows t ps P =
     (u : List ℕ) (ty : EventType) (h : Headed) → TypeIs u ty t ps → KindsAre ty → DossierIs s h d → RowsAre s h.snapshots rows →
     P ty h.snapshots
 
--- the number of all snapshots, by the number of those before j
-pub record NumberFrom (limits : Limits) (s : List ℕ) (d : DossierIndex) (rows : List ℕ) (t : TypeIndex) (ps : List ℕ) (number j : ℕ) : Type 0 where
-  pub is : Each s d rows t ps (λ ty ss. dossier_number limits ty ss ≡ number_from limits ty ss number j)
-  pub either : (number ≡ 0) ⊎ (number ≡ 6)
+-- what all snapshots come to, by the answer of those before j, which is refused by 6 alone
+pub record AskedFrom
+    (limits : Limits) (s : List ℕ) (d : DossierIndex) (rows : List ℕ) (t : TypeIndex) (ps : List ℕ) (answer : Asked (Unit {0})) (j : ℕ)
+    : Type 0 where
+  pub is : Each s d rows t ps (λ ty ss. asked_all limits ty ss ≡ asked_from limits ty ss answer j)
+  pub by-six : Each s d rows t ps (λ ty ss. (answer >> sixth) ≡ sixth)
 
 module _
     (limits : Limits) (s : List ℕ) (d : DossierIndex) (rows : List ℕ) (t : TypeIndex) (ps : List ℕ) {r : Bool}
     (e : r ≡ (ltb 0 t.mark || eqb d.count 1)) where
-  pub not-lone : r ≡ false → Each s d rows t ps (λ ty ss. 5 ≡ dossier_number limits ty ss)
-  unfolding shape_number
+  pub not-lone : r ≡ false → Each s d rows t ps (λ ty ss. refused 5 ≡ asked_all limits ty ss)
   not-lone f u ty h w g x y = sym (by-lone s h d x limits u ty t ps w e f)
 
-  pub is-lone : r ≡ true → NumberFrom limits s d rows t ps 0 0
-  is-lone f = record { is = λ u ty h w g x y. by-lone s h d x limits u ty t ps w e f; either = inl refl }
+  pub is-lone : r ≡ true → AskedFrom limits s d rows t ps (accepted tt) 0
+  is-lone f = record { is = λ u ty h w g x y. by-lone s h d x limits u ty t ps w e f; by-six = λ u ty h w g x y. refl }
 
 module _
-    {limits : Limits} {s : List ℕ} {d : DossierIndex} {rows : List ℕ} {t : TypeIndex} {ps : List ℕ} {number j : ℕ}
-    (l : NumberFrom limits s d rows t ps number j) where
-  pub number-end : d.count ≤ j → Each s d rows t ps (λ ty ss. number ≡ dossier_number limits ty ss)
-  number-end past u ty h w g x y =
-      from_end limits ty h.snapshots number j (past-count s h d x j past) l.either ∙ sym (l.is u ty h w g x y)
+    {limits : Limits} {s : List ℕ} {d : DossierIndex} {rows : List ℕ} {t : TypeIndex} {ps : List ℕ} {answer : Asked (Unit {0})} {j : ℕ}
+    (l : AskedFrom limits s d rows t ps answer j) where
+  pub asked-end : d.count ≤ j → Each s d rows t ps (λ ty ss. answer ≡ asked_all limits ty ss)
+  asked-end past u ty h w g x y =
+      sym (l.is u ty h w g x y ∙ from_end limits ty h.snapshots answer j (past-count s h d x j past))
 
-  -- by the number n of snapshot j
-  module _ (k : j < d.count) {n : ℕ} (here : Each s d rows t ps (λ ty ss. n ≡ number_of limits ty ss j)) where
-    pub number-five : n ≡ 5 → Each s d rows t ps (λ ty ss. 5 ≡ dossier_number limits ty ss)
-    number-five f u ty h w g x y =
-        from-five limits ty h.snapshots number j (in_count s h d x j k) n (here u ty h w g x y) f ∙ sym (l.is u ty h w g x y)
-
-    pub number_more : (n ≡ 5 → ⊥) → {r : ℕ} → r ≡ cond (eqb n 6) 6 number → NumberFrom limits s d rows t ps r (j + 1)
-    number_more ne e = record {
+  -- by the answer of snapshot j
+  module _ (k : j < d.count) where
+    pub asked-fine : Each s d rows t ps (λ ty ss. accepted tt ≡ asked_at limits ty ss j) → AskedFrom limits s d rows t ps answer (j + 1)
+    asked-fine here = record {
       is = λ u ty h w g x y.
-          l.is u ty h w g x y ∙ from_more limits ty h.snapshots number j (in_count s h d x j k) n (here u ty h w g x y) ne e;
-      either = kept n number e l.either;
+          l.is u ty h w g x y ∙ from-fine limits ty h.snapshots answer j (in_count s h d x j k) (here u ty h w g x y);
+      by-six = l.by-six;
     }
+
+    -- which is refused by q
+    module _ {q : Refusal} (here : Each s d rows t ps (λ ty ss. refused (refusal_number q) ≡ asked_at limits ty ss j)) where
+      pub asked-five : q ≡ BadShape → Each s d rows t ps (λ ty ss. refused (refusal_number q) ≡ asked_all limits ty ss)
+      asked-five e u ty h w g x y =
+          ap refused (ap refusal_number e)
+          ∙ from-five limits ty h.snapshots answer j (in_count s h d x j k) (sym (ap refused (ap refusal_number e)) ∙ here u ty h w g x y)
+          ∙ sym (l.is u ty h w g x y)
+
+      pub asked-six : (q ≡ BadShape → ⊥) → AskedFrom limits s d rows t ps (refused (refusal_number q)) (j + 1)
+      asked-six ne = record {
+        is = λ u ty h w g x y.
+            l.is u ty h w g x y
+            ∙ from-six limits ty h.snapshots answer j (in_count s h d x j k) (refusal_number q) (here u ty h w g x y)
+            (λ e. ne (shape-number q e)) (l.by-six u ty h w g x y);
+        by-six = λ u ty h w g x y.
+            is-sixth limits ty h.snapshots answer j (in_count s h d x j k) (refusal_number q) (here u ty h w g x y) (λ e. ne (shape-number q e));
+      }
 
 -- the masks that are made by the index's mark are those of the type
 masks-typed :
@@ -397,13 +424,13 @@ masks-typed :
     MasksAre (is_versioned ty) ty.properties m
 masks-typed {u} {ty} {t} {ps} {m} w x = subst (λ (n : ℕ). MasksAre (ltb 0 n) ty.properties m) w.mark x
 
--- the number n of snapshot j, which is asked by the index's numbers, its row and the first row
-pub number-here :
-    (limits : Limits) {s : List ℕ} {d : DossierIndex} {rows : List ℕ} {t : TypeIndex} {ps : List ℕ} {m : ShapeMasks} {j n : ℕ} → j < d.count →
-    ((u : List ℕ) (qs : List Property) → PropertiesAre u qs t.count ps → MasksAre (ltb 0 t.mark) qs m) →
+-- the answer of snapshot j, which is asked by the index's numbers, its row and the first row
+pub asked-here :
+    (limits : Limits) {s : List ℕ} {d : DossierIndex} {rows : List ℕ} {t : TypeIndex} {ps : List ℕ} {m : ShapeMasks} {j : ℕ} {a : Asked (Unit {0})} →
+    j < d.count → ((u : List ℕ) (qs : List Property) → PropertiesAre u qs t.count ps → MasksAre (ltb 0 t.mark) qs m) →
     ((u : List ℕ) (ty : EventType) (xs : List (List Text)) (y : Snapshot) → t.mark ≡ ty.mark → PropertiesAre u ty.properties t.count ps →
     MasksAre (is_versioned ty) ty.properties m → KindsAre ty → SetsAre s xs (row_of rows 0) → SnapshotIs s y (numbers_at d j) (row_of rows j) →
-    n ≡ snapshot_number limits ty xs y) →
-    Each s d rows t ps (λ ty ss. n ≡ number_of limits ty ss j)
-number-here limits {s} {d} {rows} {t} {ps} {m} {j} {n} k masks told u ty h w g x r =
+    a ≡ snapshot_asked limits ty xs y) →
+    Each s d rows t ps (λ ty ss. a ≡ asked_at limits ty ss j)
+asked-here limits {s} {d} {rows} {t} {ps} {m} {j} {a} k masks told u ty h w g x r =
     told u ty _ _ w.mark w.are (masks-typed w (masks u ty.properties w.are)) g (first-sets s h d x rows r) (snapshot-stands s h d x rows r j k)

@@ -7,7 +7,7 @@ use Rattle.model.specs.Rule.{Snapshot}
 use Rattle.model.specs.Limits.{Limits}
 use Rattle.packed.specs.Parse.{got}
 use Rattle.packed.proofs.LayoutLaws.{and_then-got, whole-some}
-use Rattle.event.specs.Head.{Head}
+use Rattle.event.specs.Head.{Head, read_head}
 use Rattle.dossier.specs.DossierHead.{read_dossier_head, dossier_head_bytes}
 use Rattle.dossier.specs.DossierBody.{read_body, body_bytes}
 use Rattle.dossier.specs.DossierLayout.{Headed, read_dossier, dossier_of, dossier_bytes}
@@ -46,3 +46,19 @@ dossier-was limits s h e =
         let f : (record { head = g; snapshots = ss }) ≡ h = cc in
         let k : u ≡ [] = cc in
         rw (← f) (a.0 ∙ rw (b.0, k) (sym (dossier-parts (record { head = g; snapshots = ss }))), record { head = a.1; body = b.1 })
+
+-- ---- what a dossier begins with
+
+pub dossier-begins :
+    (limits : Limits) (s : List ℕ) (h : Headed) → dossier_of limits s ≡ some h → (r : List ℕ) × (read_head limits.parents s ≡ got h.head r)
+unfolding read_dossier_head
+dossier-begins limits s h e =
+    let w = dossier-was limits s h e in
+    let rest = body_bytes h.snapshots ++ [] in
+    (rest, ap (read_head limits.parents) (w.0 ∙ dossier-parts h) ∙ dossier-head-read limits h.head rest w.1.head)
+
+-- a name that is read where a head begins is that of the dossier's type
+pub dossier-name :
+    (s name : List ℕ) → ((most : ℕ) (h : Head) (r : List ℕ) → read_head most s ≡ got h r → name ≡ h.type) →
+    (limits : Limits) (h : Headed) → dossier_of limits s ≡ some h → name ≡ h.head.type
+dossier-name s name told limits h e = let b = dossier-begins limits s h e in told limits.parents h.head b.0 b.1

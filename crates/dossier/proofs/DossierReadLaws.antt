@@ -2,7 +2,7 @@
 use mathlib.Core.Path.{◌≡◌, refl, sym, ap, ap₂, ◌∙◌, subst, subst₂}
 use mathlib.Core.Logic.{⊎_elim}
 use mathlib.Core.Bool.{Bool, true, false}
-use mathlib.Core.Option.{none}
+use mathlib.Core.Option.{Option, none, some}
 use mathlib.Core.List.{List, [], ◌∷◌, ◌++◌, append-nil, map, map-id}
 use Prim.Native.Nat.{ℕ, zero, suc, ◌+◌, ◌-◌, ◌*◌, ◌≤◌, ◌<◌}
 use native.Mathlib.Omega.{arith}
@@ -16,7 +16,7 @@ use borrow.Author.Count.{below_more}
 use borrow.Author.Tests.{ltb-true, ltb-false}
 use borrow.Rule.Slice.PartMut.{mid_of, post_of, put_mid, same_len_mid, mid_len}
 use Rattle.model.specs.Order.{numbers, rising}
-use Rattle.model.proofs.Cases.{three}
+use Rattle.model.proofs.Cases.{three, never}
 use Rattle.model.proofs.OrderLaws.{less-of, less-cmp}
 use Rattle.model.specs.Rule.{Snapshot, sizes}
 use Rattle.model.specs.Opening.{held}
@@ -39,12 +39,13 @@ use Rattle.dossier.specs.DossierLayout.{Headed, read_dossier, dossier_of}
 use Rattle.dossier.specs.DossierBody.{read_snapshot, differ_bit, snapshot_bytes, read_body}
 use Rattle.dossier.specs.code.DossierIndex.{SnapshotAt, SnapshotStops, SnapshotReads, no_snapshot, version_numbers, no_version, row_of}
 use Rattle.dossier.specs.code.DossierIndex.{SnapshotsStop}
-use Rattle.dossier.specs.code.DossierIndex.{DossierIs, DossierReads, DossierHeadStops, DossierHeadReads}
+use Rattle.dossier.specs.code.DossierIndex.{DossierIs, RowsAre, DossierStands, DossierReads, DossierHeadStops, DossierHeadReads}
 use Rattle.dossier.specs.declared.snapshots.SnapshotNumbers.{SnapshotNumbers}
 use Rattle.dossier.specs.declared.dossiers.SnapshotsRead.{SnapshotsRead}
 use Rattle.dossier.specs.declared.dossiers.DossierIndex.{DossierIndex}
 use Rattle.dossier.proofs.DossierBodyLaws.{SnapshotWritten, snapshot-was}
-use Rattle.std.specs.Prelude.{Option, Some, None}
+use Rattle.std.specs.Prelude.{Some, None}
+use Rattle.std.specs.Prelude as std
 use Rattle.std.specs.List.{IsAllAdjacentAnswer}
 
 -- ---- versions that rise
@@ -332,12 +333,12 @@ module _ {p : Parse (List Snapshot)} {s rows : List ℕ} {r : SnapshotsRead} {n 
 
 -- what is known of a call's answer in the arm of a `match`
 pub snapshot-read :
-    {s : List ℕ} {at : ℕ} {ats : List ℕ} {r : Option (SnapshotNumbers × ℕ)} {x : SnapshotNumbers} {next : ℕ} →
+    {s : List ℕ} {at : ℕ} {ats : List ℕ} {r : std.Option (SnapshotNumbers × ℕ)} {x : SnapshotNumbers} {next : ℕ} →
     r ≡ Some (x, next) → SnapshotReads s at ats r → SnapshotStops s at x next ats
 snapshot-read {s} {at} {ats} h w = subst (SnapshotReads s at ats) h w
 
 pub snapshot-refused :
-    (s : List ℕ) (at : ℕ) (ats : List ℕ) {r : Option (SnapshotNumbers × ℕ)} → r ≡ None → SnapshotReads s at ats r →
+    (s : List ℕ) (at : ℕ) (ats : List ℕ) {r : std.Option (SnapshotNumbers × ℕ)} → r ≡ None → SnapshotReads s at ats r →
     read_snapshot (drop at s) ≡ fail
 snapshot-refused s at ats h w = subst (SnapshotReads s at ats) h w
 
@@ -361,24 +362,17 @@ head_first : (limits : Limits) (s : List ℕ) →
 unfolding read_dossier read_body
 head_first limits s = refl
 
--- what is answered where the bytes are no dossier
-pub refused :
-    (limits : Limits) (s rows : List ℕ) (i : DossierIndex) → dossier_of limits s ≡ none → i.ok ≡ false →
-    DossierReads (dossier_of limits s) s rows i
-unfolding DossierReads
-refused limits s rows i e h = rw e h
-
 no-dossier : (limits : Limits) (s : List ℕ) → read_dossier limits s ≡ fail → dossier_of limits s ≡ none
 unfolding dossier_of
 no-dossier limits s e = rw e
 
 -- what is known of the head's answer in the arm of a `match`
 pub head-reads :
-    {p : Parse Head} {s : List ℕ} {r : Option (HeadAt × ℕ)} {x : HeadAt} {end : ℕ} → r ≡ Some (x, end) → DossierHeadReads p s r →
+    {p : Parse Head} {s : List ℕ} {r : std.Option (HeadAt × ℕ)} {x : HeadAt} {end : ℕ} → r ≡ Some (x, end) → DossierHeadReads p s r →
     DossierHeadStops p s x end
 head-reads {p} {s} h w = subst (DossierHeadReads p s) h w
 
-pub head-refused : {p : Parse Head} (s : List ℕ) {r : Option (HeadAt × ℕ)} → r ≡ None → DossierHeadReads p s r → p ≡ fail
+pub head-refused : {p : Parse Head} (s : List ℕ) {r : std.Option (HeadAt × ℕ)} → r ≡ None → DossierHeadReads p s r → p ≡ fail
 head-refused {p} s h w = subst (DossierHeadReads p s) h w
 
 pub head-none : (limits : Limits) (s : List ℕ) → read_dossier_head limits s ≡ fail → dossier_of limits s ≡ none
@@ -415,7 +409,6 @@ module _ {limits : Limits} {s : List ℕ} {x : HeadAt} {n at : ℕ} (w : HeadCou
 -- the index of a dossier
 abbrev pub index_of : HeadAt → ℕ → SnapshotsRead → DossierIndex
 index_of x n r = record {
-  ok = true;
   head = x;
   count = n;
   starts = r.starts;
@@ -473,13 +466,35 @@ module _
       objects = all.objects;
     }
 
-    pub dossier-found :
-        b ≡ true → r.next ≡ length s →
-        DossierReads (dossier_of limits s) s rows (index_of x n r)
-    unfolding DossierReads dossier_of
+    pub dossier-found : b ≡ true → r.next ≡ length s → DossierStands (dossier_of limits s) s rows (index_of x n r)
+    unfolding dossier_of
     dossier-found e z =
         let g : read_dossier limits s ≡ got read-there [] =
         last_step
         ∙ ap (λ (b : Bool). and_then (found_if b these (drop r.next s)) (under top)) (rises e)
         ∙ ap (got read-there) (ap (λ (k : ℕ). drop k s) z ∙ drop-length s) in
-        rw g (refl, stands, all.stand)
+        record { what = read-there; is = rw g; stands = stands; in_rows = all.stand }
+
+-- ---- what a caller of `read_dossier` has, whose answer is r
+
+module _ (p : Option Headed) (s rows : List ℕ) (r : std.Option DossierIndex) where
+  pub dossier-absent : DossierReads p s rows r → r ≡ None → p ≡ none
+  dossier-absent w h = subst (DossierReads p s rows) h w
+
+  pub dossier-known : {d : DossierIndex} → DossierReads p s rows r → r ≡ Some d → DossierStands p s rows d
+  dossier-known w h = subst (DossierReads p s rows) h w
+
+  -- a dossier has 8 snapshots at most
+  pub reads-few : {d : DossierIndex} → DossierReads p s rows r → r ≡ Some d → d.count ≤ 8
+  reads-few w h = (dossier-known w h).stands.few
+
+-- so of the dossier that is known to be there
+pub dossier-there :
+    (p : Option Headed) (s rows : List ℕ) (r : std.Option DossierIndex) (h : Headed) → p ≡ some h → DossierReads p s rows r →
+    (d : DossierIndex) × (r ≡ Some d) × DossierIs s h d × RowsAre s h.snapshots rows
+dossier-there p s rows (Some d) h e w =
+    let k : w.what ≡ h = cc (w.is) in
+    let z : DossierIs s h d × RowsAre s h.snapshots rows =
+    subst (λ (g : Headed). DossierIs s g d × RowsAre s g.snapshots rows) k (w.stands, w.in_rows) in
+    (d, refl, z.0, z.1)
+dossier-there p s rows None h e w = never (cc)

@@ -1,4 +1,4 @@
-ghost use Rattle.std.specs.Prelude.{◌≡◌, true, false, ◌*◌, ◌≤◌, length, take, drop};
+ghost use Rattle.std.specs.Prelude.{◌≡◌, ◌*◌, ◌≤◌, length, take, drop, IfSome};
 ghost use Rattle.std.proofs.Math.Option.{some};
 ghost use Rattle.model.specs.Order.{numbers, rising};
 ghost use Rattle.model.specs.Limits.{Permitted};
@@ -10,7 +10,7 @@ ghost use Rattle.dossier.specs.code.DossierIndex.{version_numbers, SnapshotsSay,
 
 use crate::head::{dossier_head_end, read_dossier_head};
 use crate::snapshots::read_snapshot;
-use event::head::{HeadAt, no_head};
+use event::head::HeadAt;
 use packed::read::read_within;
 use replies::limits::Limits;
 use values::versions::EventVersion;
@@ -31,7 +31,6 @@ pub struct SnapshotsRead {
 // how many objects they have. Where their sets stand is lent beside it: rows of 96 numbers, one for each snapshot.
 #[derive(Clone, Copy)]
 pub struct DossierIndex {
-    pub ok: bool,
     pub head: HeadAt,
     pub count: usize,
     pub starts: [usize; 8],
@@ -74,21 +73,6 @@ fn versions_rise(versions: [EventVersion; 8], count: usize) -> bool
     versions[..count].is_sorted_by(|a, b| a.0 < b.0)
 }
 
-fn no_dossier() -> DossierIndex
-    ensures { (result.ok ≡ false) × (result.count ≡ 0) }
-{
-    DossierIndex {
-        ok: false,
-        head: no_head(),
-        count: 0,
-        starts: [0; 8],
-        ends: [0; 8],
-        versions: [EventVersion(0); 8],
-        differs: [0; 8],
-        objects: [0; 8],
-    }
-}
-
 // How many snapshots a dossier has, so that its rows can be lent before it is read; some number where the bytes are no dossier, and 0 where none stands there.
 pub fn snapshot_count(s: &[u8], limits: Limits) -> usize
     requires { Permitted (limits_of limits) }
@@ -101,38 +85,30 @@ pub fn snapshot_count(s: &[u8], limits: Limits) -> usize
 }
 
 // The index of a dossier that the bytes are, to their exact end.
-pub fn read_dossier(s: &[u8], limits: Limits, rows: &mut [usize]) -> DossierIndex
+pub fn read_dossier(s: &[u8], limits: Limits, rows: &mut [usize]) -> Option<DossierIndex>
     requires { Permitted (limits_of limits) × HasRows (limits_of limits) s.now (length rows.old) }
     ensures dossier_reads { DossierReads (dossier_of (limits_of limits) s.now) s.now rows.new result }
-    ensures within { 96 * result.count ≤ length rows.old }
+    ensures within { IfSome result (λ (d : DossierIndex). 96 * d.count ≤ length rows.old) }
 {
-    let Some((head, after_head)) = read_dossier_head(s, limits) else {
-        return no_dossier();
-    };
-    let Some((number, after_count)) = read_within(s, after_head, 1, limits.versions as u64) else {
-        return no_dossier();
-    };
+    let (head, after_head) = read_dossier_head(s, limits)?;
+    let (number, after_count) = read_within(s, after_head, 1, limits.versions as u64)?;
     let count = number as usize;
     // a dossier has its rows, so that the bytes are none here
     if rows.len() < 96 * count {
-        return no_dossier();
+        return None;
     }
-    let Some(all) = read_snapshots(s, after_count, count, rows) else {
-        return no_dossier();
-    };
-    if all.next != s.len() {
-        return no_dossier();
+    let SnapshotsRead {
+        next,
+        starts,
+        ends,
+        versions,
+        differs,
+        objects,
+    } = read_snapshots(s, after_count, count, rows)?;
+    if next != s.len() || !versions_rise(versions, count) {
+        return None;
     }
-    let starts = all.starts;
-    let ends = all.ends;
-    let versions = all.versions;
-    let differs = all.differs;
-    let objects = all.objects;
-    if !versions_rise(versions, count) {
-        return no_dossier();
-    }
-    DossierIndex {
-        ok: true,
+    Some(DossierIndex {
         head,
         count,
         starts,
@@ -140,5 +116,5 @@ pub fn read_dossier(s: &[u8], limits: Limits, rows: &mut [usize]) -> DossierInde
         versions,
         differs,
         objects,
-    }
+    })
 }

@@ -1,28 +1,30 @@
-ghost use Rattle.std.specs.Prelude.{ℕ, ◌*◌, ◌≤◌, ◌≡◌, true, cond, ◌&&◌, ◌||◌, List, length, ltb, eqb};
-ghost use Rattle.std.proofs.Math.Option.{some};
+ghost use Rattle.std.specs.Prelude.{ℕ, ◌*◌, ◌≤◌, ◌≡◌, cond, ◌&&◌, ◌||◌, List, length, ltb, eqb, IfOk};
+ghost use Rattle.model.specs.Limits.{Permitted};
 ghost use Rattle.model.specs.Order.{Text, sets, lists, equal};
 ghost use Rattle.model.specs.Rule.{Snapshot};
 ghost use Rattle.replies.specs.ChosenLimits.{limits_of};
-ghost use Rattle.ontology.specs.Table.{EventType, Table, is_versioned, type_named};
-ghost use Rattle.ontology.specs.TableLayout.{table_of};
-ghost use Rattle.ontology.specs.code.TypeIndex.{PropertiesAre, TypeIs, TypeSays};
+ghost use Rattle.replies.specs.Replies.{asked_of};
+ghost use Rattle.ontology.specs.Table.{EventType, is_versioned};
+ghost use Rattle.ontology.specs.code.TypeIndex.{PropertiesAre, TypeIs};
 ghost use Rattle.event.specs.code.EventIndex.{SetsAre, KindsAre};
 ghost use Rattle.event.specs.Agreement.{match_sets};
-ghost use Rattle.dossier.specs.DossierLayout.{Headed, dossier_of};
-ghost use Rattle.dossier.specs.DossierQuestions.{snapshot_match, dossier_shape, each_snapshot, snapshot_values, dossier_asked, dossiers_agree};
-ghost use Rattle.dossier.specs.code.DossierIndex.{SnapshotIs, RowsAre, MasksAre, snapshot_fits, shape_number, DossierIs, DossierReads, DossierAnswers};
+ghost use Rattle.dossier.specs.DossierLayout.{Headed};
+ghost use Rattle.dossier.specs.DossierQuestions.{snapshot_match, dossier_shape, each_snapshot, snapshot_values, dossiers_agree};
+ghost use Rattle.dossier.specs.code.DossierIndex.{SnapshotIs, RowsAre, MasksAre, snapshot_fits, shape_asked, DossierIs, HasRows};
+ghost use Rattle.dossier.specs.code.DossierIndex.{dossier_questions, DossierAnswers};
 
-use crate::dossiers::DossierIndex;
+use crate::dossiers::{DossierIndex, read_dossier};
 use crate::shape::{ShapeMasks, masks_of, snapshot_fits};
 use crate::snapshots::SnapshotNumbers;
 use event::agree::is_match_same;
-use event::head::{heads_agree, text_part};
+use event::head::{heads_agree, type_name};
 use event::spaces::sets_in_space;
-use ontology::tables::TableRead;
+use ontology::tables::read_table;
 use ontology::types::TypeIndex;
 use replies::limits::Limits;
+use replies::reply::Refusal;
 
-// The number of the first question of 5 and 6 that a snapshot is refused by, or 0. All snapshots have the match sets of the first.
+// Questions 5 and 6 of a snapshot. All snapshots have the match sets of the first.
 fn ask_snapshot(
     s: &[u8],
     first: &[usize],
@@ -33,32 +35,24 @@ fn ask_snapshot(
     limits: Limits,
     count: usize,
     properties: &[usize],
-) -> u8
+) -> Result<(), Refusal>
     requires { (count ≤ 32) × (length first.now ≡ 96) × (length row.now ≡ 96) × (length properties.now ≡ 96) }
     ensures { (u : List ℕ) (ty : EventType) (xs : List (List Text)) (y : Snapshot) → mark ≡ ty.mark
         → PropertiesAre u ty.properties count properties.now → MasksAre (is_versioned ty) ty.properties m → KindsAre ty
         → SetsAre s.now xs first.now → SnapshotIs s.now y x row.now
-        → result ≡ shape_number (snapshot_fits (limits_of limits) ty y && equal (lists sets) (match_sets ty.properties xs) (snapshot_match ty y))
+        → asked_of result ≡ shape_asked (snapshot_fits (limits_of limits) ty y && equal (lists sets) (match_sets ty.properties xs) (snapshot_match ty y))
         (snapshot_values ty y) }
 {
     if !snapshot_fits(s, row, x, m, mark, limits, count, properties) {
-        return 5;
+        return Err(Refusal::BadShape);
     }
     if !is_match_same(count, properties, s, first, s, row) {
-        return 5;
+        return Err(Refusal::BadShape);
     }
-    if sets_in_space(s, row, count, properties) {
-        0
-    } else {
-        6
+    if !sets_in_space(s, row, count, properties) {
+        return Err(Refusal::BadValue);
     }
-}
-
-// What comes first of the numbers so far and the next one, where neither is 5.
-fn first_number(number: u8, next: u8) -> u8
-    ensures { result ≡ cond (eqb next 6) 6 number }
-{
-    if next == 6 { 6 } else { number }
+    Ok(())
 }
 
 // An unversioned dossier has a single snapshot.
@@ -68,80 +62,71 @@ fn is_lone(mark: usize, count: usize) -> bool
     0 < mark || count == 1
 }
 
-// Questions 5 and 6 of a dossier's snapshots.
-fn ask_snapshots(
+// Questions 5 and 6 of the dossier s, whose index is d, and whose type is t. Question 6 is asked of a snapshot only where 5 is answered yes of it, but is
+// answered after 5 of all.
+pub fn ask_dossier(
     s: &[u8],
     limits: Limits,
     d: DossierIndex,
     rows: &[usize],
     t: TypeIndex,
     properties: &[usize],
-) -> u8
+) -> Result<(), Refusal>
     requires { (t.count ≤ 32) × (d.count ≤ 8) × (96 * d.count ≤ length rows.now) × (length properties.now ≡ 96) }
     ensures { (u : List ℕ) (ty : EventType) (h : Headed) → TypeIs u ty t properties.now → KindsAre ty
         → DossierIs s.now h d → RowsAre s.now h.snapshots rows.now
-        → result ≡ shape_number (dossier_shape (limits_of limits) ty h.snapshots) (each_snapshot (snapshot_values ty) h.snapshots) }
+        → asked_of result ≡ shape_asked (dossier_shape (limits_of limits) ty h.snapshots) (each_snapshot (snapshot_values ty) h.snapshots) }
 {
     if !is_lone(t.mark, d.count) {
-        return 5;
+        return Err(Refusal::BadShape);
     }
     let m = masks_of(0 < t.mark, t.count, properties);
-    let mut number: u8 = 0;
+    let mut answer = Ok(());
     for j in 0..d.count {
         let x = SnapshotNumbers {
             version: d.versions[j],
             differ: d.differs[j],
             objects: d.objects[j],
         };
-        let next = ask_snapshot(
+        let row = &rows[96 * j..96 * j + 96];
+        if let Err(refusal) = ask_snapshot(
             s,
             &rows[0..96],
-            &rows[96 * j..96 * j + 96],
+            row,
             x,
             m,
             t.mark,
             limits,
             t.count,
             properties,
-        );
-        if next == 5 {
-            return 5;
+        ) {
+            if refusal == Refusal::BadShape {
+                return Err(refusal);
+            }
+            answer = Err(refusal);
         }
-        number = first_number(number, next);
     }
-    number
+    answer
 }
 
-// The name of a dossier's type, by which the table is read.
-pub fn type_name(s: &[u8], d: DossierIndex) -> &[u8]
-    ensures { (h : Headed) → DossierIs s.now h d → result.now ≡ h.head.type }
-{
-    text_part(s, d.head.name)
-}
-
-// Questions 3 to 6 of the dossier s, whose index is d: the number of the first that is answered no, or 0. The table was read for the name of its type, and is
-// read once for all dossiers of that type.
-pub fn ask_dossier(
+// A table and a dossier that are read and asked questions 2 to 6: the type, whose properties are lent, and the dossier's index, whose rows are.
+pub fn accept(
+    table: &[u8],
     s: &[u8],
     limits: Limits,
-    d: DossierIndex,
-    rows: &[usize],
-    read: TableRead,
-    properties: &[usize],
-) -> u8
-    requires count_in_bounds { (96 * d.count ≤ length rows.now) × (length properties.now ≡ 96) }
-    requires dossier_reads { DossierReads (dossier_of (limits_of limits) s.now) s.now rows.now d × (read.found ≡ true → read.index.count ≤ 32) }
-    ensures { (table : List ℕ) (ts : Table) → table_of table ≡ some ts
-        → ((h : Headed) → DossierIs s.now h d → TypeSays (type_named h.head.type ts) table properties.now read)
-        → DossierAnswers (dossier_asked (limits_of limits) ts s.now) table read.index properties.now result }
+    properties: &mut [usize],
+    rows: &mut [usize],
+) -> Result<(TypeIndex, DossierIndex), Refusal>
+    requires { Permitted (limits_of limits) × HasRows (limits_of limits) s.now (length rows.old) × (length properties.old ≡ 96) }
+    ensures answers { DossierAnswers (dossier_questions (limits_of limits) table.now s.now) table.now s.now
+        properties.new rows.new result }
+    ensures within { IfOk result (λ (x : TypeIndex × DossierIndex). 96 * x.1.count ≤ length rows.old) }
 {
-    if !d.ok {
-        return 3;
-    }
-    if !read.found {
-        return 4;
-    }
-    ask_snapshots(s, limits, d, rows, read.index, properties)
+    let found = read_table(table, type_name(s), properties).ok_or(Refusal::BadTable)?;
+    let d = read_dossier(s, limits, rows).ok_or(Refusal::BadInput)?;
+    let t = found.ok_or(Refusal::UnknownType)?;
+    ask_dossier(s, limits, d, rows, t, properties)?;
+    Ok((t, d))
 }
 
 // Question 7: whether two dossiers agree in type, source and match sets. The match sets of a dossier are those of its first snapshot.

@@ -248,6 +248,22 @@ event-was counts s e h =
     (leb-true (object_count d.value) counts.objects f.test)
     f.value f.rest
 
+-- an event begins with its head
+pub event-head :
+    (counts : Counts) (s : List ℕ) (e : Event) → event_of counts s ≡ some e → (r : List ℕ) × (read_head counts.parents s ≡ got e.head r)
+unfolding event_bytes
+event-head counts s e h =
+    let w = event-was counts s e h in
+    let n = number (bit_number (map presence_bit e.sets)) in
+    let r = n ++ sets_bytes e.sets in
+    (r, ap (read_head counts.parents) (w.0 ∙ append_assoc (head_bytes e.head) n (sets_bytes e.sets)) ∙ head_read counts.parents e.head r w.1.head)
+
+-- what is answered of whatever head the bytes begin with is so of the event's
+pub event-name :
+    (s name : List ℕ) → ((most : ℕ) (h : Head) (r : List ℕ) → read_head most s ≡ got h r → name ≡ h.type) →
+    (counts : Counts) (e : Event) → event_of counts s ≡ some e → name ≡ e.head.type
+event-name s name told counts e is = let h = event-head counts s e is in told counts.parents e.head h.0 h.1
+
 -- bytes that are one event are equal
 pub event-injective : (counts : Counts) (s t : List ℕ) (e : Event) → event_of counts s ≡ some e → event_of counts t ≡ some e → s ≡ t
 event-injective counts s t e h k = (event-was counts s e h).0 ∙ sym (event-was counts t e k).0

@@ -1,7 +1,7 @@
 -- The laws of reading a whole event: its head, its presence number and its sets.
-use mathlib.Core.Path.{◌≡◌, refl, sym, ap, ◌∙◌}
+use mathlib.Core.Path.{◌≡◌, refl, sym, ap, ◌∙◌, subst}
 use mathlib.Core.Bool.{Bool, true, false}
-use mathlib.Core.Option.{Option, none}
+use mathlib.Core.Option.{Option, none, some}
 use mathlib.Core.List.{List, [], ◌∷◌, ◌++◌, append_assoc, append-nil}
 use Prim.Native.Nat.{ℕ, ◌-◌, ◌^◌, ◌≤◌, ◌<◌}
 use native.Mathlib.Omega.{arith}
@@ -9,6 +9,7 @@ use lib.Dec.{leb}
 use lib.ListN.{length, take, drop, drop_of_length-le}
 use borrow.Author.Tests.{le-leb, lt-leb, lt-ltb, le-ltb}
 use Rattle.model.specs.Order.{Text}
+use Rattle.model.proofs.Cases.{never}
 use Rattle.packed.specs.Parse.{Parse, fail, got, and_then, found_if, whole}
 use Rattle.packed.specs.Packed.{number, read_number}
 use Rattle.packed.specs.code.Located.{number_at}
@@ -17,15 +18,15 @@ use Rattle.packed.proofs.ReadLaws.{drop-next, NumberStops, stretch}
 use Rattle.event.specs.Event.{Event, object_count}
 use Rattle.event.specs.Head.{Head, read_head, head_bytes}
 use Rattle.event.specs.EventLayout.{read_bits, read_sets, Counts, read_event, event_of, sets_bytes}
-use Rattle.event.specs.code.EventIndex.{SetsStop, SetsReads, HeadStops, HeadReads, EventReads, counts}
+use Rattle.event.specs.code.EventIndex.{SetsStop, SetsReads, HeadStops, HeadReads, EventIs, EventStands, EventReads}
 use Rattle.event.proofs.AnswerLaws.{number-got}
-use Rattle.event.proofs.HeadLaws.{head-reads}
+use Rattle.event.proofs.HeadLaws.{head-reads, head-refused}
 use Rattle.event.proofs.SetLaws.{sets-read}
 use Rattle.event.proofs.HeadLayoutLaws.{head-was}
 use Rattle.event.proofs.EventLayoutLaws.{read_body, sets-was}
 use Rattle.event.specs.declared.head.HeadAt.{HeadAt}
 use Rattle.event.specs.declared.read.EventIndex.{EventIndex}
-use Rattle.std.specs.Prelude.{Some}
+use Rattle.std.specs.Prelude.{Some, None}
 use Rattle.std.specs.Prelude as std
 use Rattle.event.specs.declared.sets.SetsRead.{SetsRead}
 
@@ -41,14 +42,6 @@ event-then : (counts : Counts) (s : List ℕ) → read_event counts s ≡ and_th
 unfolding read_event
 event-then counts s = refl
 
-pub event-none : (o : Option Event) (s ats : List ℕ) (x : EventIndex) → o ≡ none → x.ok ≡ false → EventReads o s ats x
-unfolding EventReads
-event-none o s ats x e h = rw e h
-
-pub no-head : (counts : Counts) (s : List ℕ) → read_head counts.parents s ≡ fail → event_of counts s ≡ none
-unfolding event_of
-no-head counts s e = rw (event-then counts s, e)
-
 -- the event of a head and of these sets, where they are not too many
 abbrev event-of : Counts → Head → List (List Text) → List ℕ → Parse Event
 event-of counts h xs = found_if (leb (object_count xs) counts.objects) (record { head = h; sets = xs })
@@ -60,28 +53,38 @@ pub record BodyAt (counts : Counts) (s : List ℕ) (h : HeadAt) (n next : ℕ) :
   small : n < 2 ^ 32
   after : read_event counts s ≡ and_then (read_sets 32 n (drop next s)) (event-of counts head.what)
 
-module _ (counts : Counts) (s : List ℕ) {h : HeadAt} {r : std.Option HeadAt} (told : HeadReads (read_head counts.parents s) s r) (is : r ≡ Some h) where
-  w : HeadStops (read_head counts.parents s) s h
-  w = head-reads is told
+module _
+    (counts : Counts) (s : List ℕ) {most : ℕ} (few : most ≡ counts.parents) (r : std.Option HeadAt)
+    (most-told : HeadReads (read_head most s) s r) where
+  told : HeadReads (read_head counts.parents s) s r
+  told = subst (λ (n : ℕ). HeadReads (read_head n s) s r) few most-told
 
-  after-head : read_event counts s ≡ read_body counts w.what (drop h.parents.end s)
-  after-head = event-then counts s ∙ ap (λ (p : Parse Head). and_then p (read_body counts)) w.is
+  pub no-head : r ≡ None → event_of counts s ≡ none
+  unfolding event_of
+  no-head is = rw (event-then counts s, head-refused s is told)
 
-  pub no-presence : read_number (drop h.parents.end s) ≡ fail → event_of counts s ≡ none
-  unfolding event_of read_bits
-  no-presence e = rw (after-head, e)
+  module _ {h : HeadAt} (is : r ≡ Some h) where
+    w : HeadStops (read_head counts.parents s) s h
+    w = head-reads is told
 
-  module _ {n next : ℕ} {a : std.Option (ℕ × ℕ)} (number-told : a ≡ number_at s h.parents.end) (number_is : a ≡ Some (n, next)) where
-    m : NumberStops s h.parents.end n next
-    m = number-got number-told number_is
+    after-head : read_event counts s ≡ read_body counts w.what (drop h.parents.end s)
+    after-head = event-then counts s ∙ ap (λ (p : Parse Head). and_then p (read_body counts)) w.is
 
-    pub presence-large : 2 ^ 32 ≤ n → event_of counts s ≡ none
+    pub no-presence : read_number (drop h.parents.end s) ≡ fail → event_of counts s ≡ none
     unfolding event_of read_bits
-    presence-large k = rw (after-head, m.is, le-ltb n (2 ^ 32) k)
+    no-presence e = rw (after-head, e)
 
-    pub body_at : n < 2 ^ 32 → BodyAt counts s h n next
-    unfolding read_bits
-    body_at small = record { head = w; number = m; small = small; after = rw (after-head, m.is, lt-ltb n (2 ^ 32) small) }
+    module _ {n next : ℕ} {a : std.Option (ℕ × ℕ)} (number-told : a ≡ number_at s h.parents.end) (number_is : a ≡ Some (n, next)) where
+      m : NumberStops s h.parents.end n next
+      m = number-got number-told number_is
+
+      pub presence-large : 2 ^ 32 ≤ n → event_of counts s ≡ none
+      unfolding event_of read_bits
+      presence-large k = rw (after-head, m.is, le-ltb n (2 ^ 32) k)
+
+      pub body_at : n < 2 ^ 32 → BodyAt counts s h n next
+      unfolding read_bits
+      body_at small = record { head = w; number = m; small = small; after = rw (after-head, m.is, lt-ltb n (2 ^ 32) small) }
 
 module _ {counts : Counts} {s : List ℕ} {h : HeadAt} {n next : ℕ} (b : BodyAt counts s h n next) where
   pub no-sets : read_sets 32 n (drop next s) ≡ fail → event_of counts s ≡ none
@@ -107,20 +110,20 @@ module _ {counts : Counts} {s : List ℕ} {h : HeadAt} {n next : ℕ} (b : BodyA
         go true e y l = refl
         go false e y l = refl
 
-    module _ (whole-read : read.next ≡ length s) where
+    module _ (whole-read : read.next ≡ length s) {most : ℕ} (limit : most ≡ counts.objects) where
       at-end : drop read.next s ≡ []
       at-end = let l : length s ≤ read.next = omega arith in drop_of_length-le s l
 
-      pub many : counts.objects < read.objects → event_of counts s ≡ none
+      pub many : most < read.objects → event_of counts s ≡ none
       unfolding event_of
       many k =
           let l : counts.objects < object_count t.what = omega (arith, t.summed) in
           rw (after-sets [] at-end, lt-leb _ _ l)
 
       pub event-found :
-          read.objects ≤ counts.objects → EventReads (event_of counts s) s ats
-          (record { ok = true; head = h; presence = n; after_presence = next; objects = read.objects })
-      unfolding event_of EventReads
+          read.objects ≤ most →
+          EventStands (event_of counts s) s ats (record { head = h; presence = n; after_presence = next; objects = read.objects })
+      unfolding event_of
       event-found k =
           let w = b.head in
           let m = b.number in
@@ -131,9 +134,10 @@ module _ {counts : Counts} {s : List ℕ} {h : HeadAt} {n next : ℕ} (b : BodyA
           ∙ ap (λ (l : List ℕ). head_bytes w.what ++ l) (number-was (drop h.parents.end s) n (drop next s) m.is).0
           ∙ sym (append_assoc (head_bytes w.what) (number n) (drop next s)) in
           let zero : next ≡ next - 0 = omega arith in
-          rw (after-sets [] at-end, le-leb _ _ l) (
-            refl,
-            record {
+          record {
+            what = record { head = w.what; sets = t.what };
+            is = rw (after-sets [] at-end, le-leb _ _ l);
+            stands = record {
               head = w.stands;
               presence = sym x.present;
               front = ap (λ (i : ℕ). take i s) zero ∙ (stretch s (head_bytes w.what ++ number n) 0 next (omega arith) m.within front).0;
@@ -141,5 +145,13 @@ module _ {counts : Counts} {s : List ℕ} {h : HeadAt} {n next : ℕ} (b : BodyA
               within = m.within;
               objects = t.summed;
               sets = t.stands;
-            },
-          )
+            };
+          }
+
+-- ---- what a caller of `read_event` has, where the bytes are known to be the event e
+
+pub event-there :
+    (o : Option Event) (s ats : List ℕ) (r : std.Option EventIndex) (e : Event) →
+    o ≡ some e → EventReads o s ats r → (x : EventIndex) × (r ≡ Some x) × EventIs s e x ats
+event-there o s ats (Some x) e h w = let k : w.what ≡ e = cc (w.is) in (x, refl, subst (λ (u : Event). EventIs s u x ats) k w.stands)
+event-there o s ats None e h w = never (cc)

@@ -12,7 +12,7 @@ use Rattle.packed.specs.Parse.{Parse, fail, got, Layout, and_then, ◌>>=◌, fo
 use Rattle.packed.specs.code.Comparison.{precedes}
 use Rattle.packed.specs.code.Located.{number_at, text_at}
 use Rattle.packed.specs.Packed.{read_number, read_text, read_bytes, part}
-use Rattle.packed.proofs.LayoutLaws.{All, times-was, bytes-was, flat}
+use Rattle.packed.proofs.LayoutLaws.{All, and_then-got, times-was, bytes-was, flat}
 use Rattle.packed.proofs.ReadLaws.{NumberStops, TextStops, stretch, part_length}
 use Rattle.event.specs.Head.{is_source, read_parents, Head, read_head}
 use Rattle.event.specs.code.EventIndex.{ParentsStop, ParentsReads, HeadStops, HeadReads, HashesAre, HeadIs, HeadParts}
@@ -161,6 +161,14 @@ module _ (most : ℕ) (s : List ℕ) {name : TextAt} {r : Option TextAt} (name-t
   named : read_head most s ≡ after_name most type (drop name.end s)
   unfolding read_head
   named = ap (λ (p : Parse Text). and_then p (λ t. after_name most t)) n.is
+
+  -- the type name of a head that is found is the first text
+  pub name-part : {h : Head} {left : List ℕ} → read_head most s ≡ got h left → type ≡ h.type
+  name-part {h} {left} e =
+      let c = and_then-got (such_that is_source read_text (drop name.end s)) _ h left (sym named ∙ e) in
+      let d = and_then-got (read_parents most c.left) _ h left c.second in
+      let f : record { type = type; source = c.value; parents = d.value } ≡ h = cc (d.second) in
+      ap (λ (g : Head). g.type) f
 
   pub no_source : read_text (drop name.end s) ≡ fail → read_head most s ≡ fail
   no_source f = named ∙ rw f

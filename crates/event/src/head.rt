@@ -1,4 +1,5 @@
-ghost use Rattle.std.specs.Prelude.{◌≡◌, ◌&&◌, length, drop};
+ghost use Rattle.std.specs.Prelude.{ℕ, ◌≡◌, ◌&&◌, length, drop};
+ghost use Rattle.packed.specs.Parse.{got};
 ghost use mathlib.Core.List.{List, flatten};
 ghost use Rattle.model.specs.Order.{Text, texts, equal};
 ghost use Rattle.packed.specs.code.Written.{Wrote};
@@ -79,19 +80,13 @@ pub fn read_head(s: &[u8], most: usize) -> Option<HeadAt>
     })
 }
 
-// The head of what is no event and no dossier.
-pub fn no_head() -> HeadAt
-    ensures { result.parents.count ≡ 0 }
+// The type name that an event or a dossier begins with; the empty name, which no type has, where it cannot be read.
+pub fn type_name(s: &[u8]) -> &[u8]
+    ensures { (most : ℕ) (h : Head) (r : List ℕ) → read_head most s.now ≡ got h r → result.now ≡ h.type }
 {
-    let none = TextAt { start: 0, end: 0 };
-    HeadAt {
-        name: none,
-        source: none,
-        parents: SetAt {
-            start: 0,
-            end: 0,
-            count: 0,
-        },
+    match read_text(s, 0) {
+        Some(name) => &s[name.start..name.end],
+        None => &s[0..0],
     }
 }
 

@@ -1,5 +1,5 @@
 -- The laws of the numbers that replies are packed into.
-use Prim.Native.Nat.{ℕ, ◌+◌, ◌*◌, ◌-◌, ◌%◌, ◌≤◌}
+use Prim.Native.Nat.{ℕ, ◌+◌, ◌*◌, ◌-◌, ◌%◌}
 use native.Mathlib.Nat.{zero-add}
 use mathlib.Core.Path.{◌≡◌, refl, sym, ap, ◌∙◌}
 use mathlib.Core.List.{List}
@@ -7,30 +7,23 @@ use Rattle.packed.proofs.ReadLaws.{part_length}
 use Rattle.values.specs.declared.versions.EventVersion.{EventVersion}
 use Rattle.replies.specs.Answers as answers
 use Rattle.replies.specs.Answers.{Outcome}
-use Rattle.replies.specs.Replies.{table_replied, replied, combine_replied, finding_of, open_replied, batch_replied}
-use Rattle.replies.specs.declared.reply.Reply.{Reply}
-use Rattle.replies.specs.declared.reply.Reply.TheVariants as reply
-use Rattle.replies.specs.declared.reply.TableReply.{TableReply}
-use Rattle.replies.specs.declared.reply.TableReply.TheVariants as table
-use Rattle.replies.specs.declared.reply.Combined.{Combined}
-use Rattle.replies.specs.declared.reply.Combined.TheVariants as combined
+use Rattle.replies.specs.Replies.{refusal_number, replied, finding_of, open_replied, batch_replied}
+use Rattle.replies.specs.declared.reply.Refusal.{Refusal}
+use Rattle.replies.specs.declared.reply.BatchRefusal.{BatchRefusal}
 use Rattle.replies.specs.declared.reply.Finding.{Finding}
 use Rattle.replies.specs.declared.reply.Finding.TheVariants.{Conflict, Overfull}
 use Rattle.replies.specs.declared.reply.Opened.{Opened}
-use Rattle.replies.specs.declared.reply.Opened.TheVariants.{Merged, Found, Refused}
-use Rattle.replies.specs.declared.reply.BatchReply.{BatchReply}
-use Rattle.replies.specs.declared.reply.BatchReply.TheVariants as batch
-use Rattle.event.specs.EventLayout.{wide}
+use Rattle.replies.specs.declared.reply.Opened.TheVariants.{Merged, Found}
 use Rattle.event.specs.Value.{Part, value_call}
-use Rattle.event.specs.code.EventIndex.{ValueFound, event_questions, EventAsked, EventAnswers}
-use Rattle.event.proofs.AskLaws.{Accepted, refused-is, found-value, found_none, nothing, value-refused, value-missing, value-is}
+use Rattle.event.specs.code.EventIndex.{PartTold}
+use Rattle.event.proofs.AskLaws.{nothing}
 use Rattle.interface.specs.Packing.{low, kinded, packed_refusal, packed_finding, packed_as, packed, packed_opened, version_or, version_after, packed_part}
-use Rattle.std.specs.Prelude.{Option, Some, None}
+use Rattle.std.specs.Prelude.{Result, Ok, Err}
 use Rattle.packed.specs.declared.read.TextAt.{TextAt}
 
-pub refusal_is : (number position : ℕ) → 288230376151711744 + (position % 16777216 * 256 + number) ≡ packed_refusal number position
+pub refusal_is : {n number : ℕ} (position : ℕ) → n ≡ number → 288230376151711744 + (position % 16777216 * 256 + n) ≡ packed_refusal number position
 unfolding packed_refusal kinded
-refusal_is number position = refl
+refusal_is position e = ap (λ (n : ℕ). 288230376151711744 + (position % 16777216 * 256 + n)) e
 
 -- ---- the arms of a reply
 
@@ -43,26 +36,20 @@ done-is : {q : answers.Reply} {n k : ℕ} → q ≡ answers.Reply.done n → k �
 unfolding packed_as kinded
 done-is {n = n} h e = in-arm packed h (e ∙ sym (zero-add (low n)))
 
-pub reply-done : {r : Reply} {n k : ℕ} → r ≡ reply.Done n → k ≡ low n → k ≡ packed (replied r)
+pub reply-done : {r : Result ℕ Refusal} {n k : ℕ} → r ≡ Ok n → k ≡ low n → k ≡ packed (replied r)
 reply-done h e = done-is (ap replied h) e
 
-pub reply-refused : {r : Reply} {n k : ℕ} → r ≡ reply.Refused n → k ≡ packed_refusal n 0 → k ≡ packed (replied r)
+pub reply-refused : {r : Result ℕ Refusal} {q : Refusal} {k : ℕ} → r ≡ Err q → k ≡ packed_refusal (refusal_number q) 0 → k ≡ packed (replied r)
 unfolding packed_as
 reply-refused h e = in-arm (λ r. packed (replied r)) h e
 
-pub batch-done : {r : BatchReply} {n k : ℕ} → r ≡ batch.Done n → k ≡ low n → k ≡ packed (batch_replied r)
+pub batch-done : {r : Result ℕ BatchRefusal} {n k : ℕ} → r ≡ Ok n → k ≡ low n → k ≡ packed (batch_replied r)
 batch-done h e = done-is (ap batch_replied h) e
 
-pub batch-refused : {r : BatchReply} {n i k : ℕ} → r ≡ batch.Refused n i → k ≡ packed_refusal n i → k ≡ packed (batch_replied r)
+pub batch-refused : {r : Result ℕ BatchRefusal} {b : BatchRefusal} {k : ℕ} → r ≡ Err b →
+    k ≡ packed_refusal (refusal_number b.refusal) b.position → k ≡ packed (batch_replied r)
 unfolding packed_as
 batch-refused h e = in-arm (λ r. packed (batch_replied r)) h e
-
-pub combined-done : {r : Combined} {n k : ℕ} → r ≡ combined.Done n → k ≡ low n → k ≡ packed (combine_replied r)
-combined-done h e = done-is (ap combine_replied h) e
-
-pub combined-refused : {r : Combined} {n k : ℕ} → r ≡ combined.Refused n → k ≡ packed_refusal n 0 → k ≡ packed (combine_replied r)
-unfolding packed_as
-combined-refused h e = in-arm (λ r. packed (combine_replied r)) h e
 
 -- ---- the arms of what opening finds
 
@@ -85,30 +72,34 @@ overfull-version old h = in-arm (λ f. version_or (finding_of f) old) h refl
 
 -- ---- the arms of what was opened
 
-pub opened-merged : {r : Opened} {n k : ℕ} → r ≡ Merged n → k ≡ low n → 72057594037927936 + k ≡ packed_opened (open_replied r)
+pub opened-merged : {r : Result Opened Refusal} {o : Opened} {n k : ℕ} → r ≡ Ok o → o ≡ Merged n → k ≡ low n →
+    72057594037927936 + k ≡ packed_opened (open_replied r)
 unfolding packed_as kinded
-opened-merged h e = in-arm (λ r. packed_opened (open_replied r)) h (ap (λ (k : ℕ). 72057594037927936 + k) e)
+opened-merged h i e = in-arm (λ r. packed_opened (open_replied r)) (h ∙ ap Ok i) (ap (λ (k : ℕ). 72057594037927936 + k) e)
 
-pub opened-found : {r : Opened} {f : Finding} {k : ℕ} → r ≡ Found f → k ≡ packed_finding (finding_of f) → k ≡ packed_opened (open_replied r)
+pub opened-found : {r : Result Opened Refusal} {o : Opened} {f : Finding} {k : ℕ} → r ≡ Ok o → o ≡ Found f → k ≡ packed_finding (finding_of f) →
+    k ≡ packed_opened (open_replied r)
 unfolding packed_as
-opened-found h e = in-arm (λ r. packed_opened (open_replied r)) h e
+opened-found h i e = in-arm (λ r. packed_opened (open_replied r)) (h ∙ ap Ok i) e
 
-pub opened-refused : {r : Opened} {n k : ℕ} → r ≡ Refused n → k ≡ packed_refusal n 0 → k ≡ packed_opened (open_replied r)
+pub opened-refused : {r : Result Opened Refusal} {q : Refusal} {k : ℕ} → r ≡ Err q → k ≡ packed_refusal (refusal_number q) 0 →
+    k ≡ packed_opened (open_replied r)
 unfolding packed_as
 opened-refused h e = in-arm (λ r. packed_opened (open_replied r)) h e
 
 -- ---- the event version of a conflict
 
-pub version-merged : {r : Opened} {n : ℕ} (old : ℕ) → r ≡ Merged n → old ≡ version_after (open_replied r) old
+pub version-merged : {r : Result Opened Refusal} {o : Opened} {n : ℕ} (old : ℕ) → r ≡ Ok o → o ≡ Merged n →
+    old ≡ version_after (open_replied r) old
 unfolding version_after
-version-merged old h = in-arm (λ r. version_after (open_replied r) old) h refl
+version-merged old h i = in-arm (λ r. version_after (open_replied r) old) (h ∙ ap Ok i) refl
 
-pub version-found :
-    {r : Opened} {f : Finding} {k : ℕ} (old : ℕ) → r ≡ Found f → k ≡ version_or (finding_of f) old → k ≡ version_after (open_replied r) old
+pub version-found : {r : Result Opened Refusal} {o : Opened} {f : Finding} {k : ℕ} (old : ℕ) → r ≡ Ok o → o ≡ Found f →
+    k ≡ version_or (finding_of f) old → k ≡ version_after (open_replied r) old
 unfolding version_after
-version-found old h e = in-arm (λ r. version_after (open_replied r) old) h e
+version-found old h i e = in-arm (λ r. version_after (open_replied r) old) (h ∙ ap Ok i) e
 
-pub version-refused : {r : Opened} {n : ℕ} (old : ℕ) → r ≡ Refused n → old ≡ version_after (open_replied r) old
+pub version-refused : {r : Result Opened Refusal} {q : Refusal} (old : ℕ) → r ≡ Err q → old ≡ version_after (open_replied r) old
 unfolding version_after
 version-refused old h = in-arm (λ r. version_after (open_replied r) old) h refl
 
@@ -128,48 +119,16 @@ answered-open old e w h = (
   (ap (λ (o : Outcome). o.bytes) h, w ∙ ap (λ (o : Outcome). version_after o.reply old) h),
 )
 
-pub answered-accepted :
-    {n : ℕ} {r : TableReply} {o : answers.Reply} → r ≡ table.Accepted → n ≡ packed (answers.Reply.done 0) → table_replied r ≡ o → n ≡ packed o
-unfolding table_replied
-answered-accepted h e w = e ∙ ap packed (ap table_replied (sym h) ∙ w)
-
-pub answered-refused :
-    {n k : ℕ} {r : TableReply} {o : answers.Reply} → r ≡ table.Refused k → n ≡ packed (answers.Reply.refused k) → table_replied r ≡ o →
-    n ≡ packed o
-unfolding table_replied
-answered-refused h e w = e ∙ ap packed (ap table_replied (sym h) ∙ w)
-
 -- ---- the value call
 
-none-packed : {x : Part} → x ≡ nothing → 0 ≡ packed_part x
+pub value-none : {x : Part} → x ≡ nothing → 0 ≡ packed_part x
 unfolding packed_part
-none-packed h = ap packed_part (sym h)
+value-none h = ap packed_part (sym h)
 
--- what the questions answer on a table and an event, and what is known where they accept them
-abbrev pub Answers : List ℕ → List ℕ → List ℕ → List ℕ → EventAsked → Type 0
-Answers table event ps ats r = EventAnswers (event_questions wide table event) table event ps ats r
-
-abbrev pub Taken : List ℕ → List ℕ → List ℕ → List ℕ → EventAsked → Type 0
-Taken table event ps ats r = Accepted wide table event ps ats r
-
-pub value-unasked :
-    (table event : List ℕ) (place index : ℕ) (ps ats : List ℕ) (r : EventAsked) → Answers table event ps ats r → (r.number ≡ 0 → ⊥) →
-    0 ≡ packed_part (value_call table event place index)
-value-unasked table event place index ps ats r w h =
-    none-packed (value-refused table event place index _ (refused-is wide table event ps ats r w h))
-
-module _ {table event ps ats : List ℕ} {r : EventAsked} (a : Taken table event ps ats r) (place index : ℕ) {q : Option TextAt} where
-  pub value-absent : q ≡ None → ValueFound event a.e place index q → 0 ≡ packed_part (value_call table event place index)
-  value-absent h w = none-packed (value-missing table event place index ps ats r a (found_none event a.e place index h w))
-
-  pub value-ordered : {x : TextAt} → q ≡ Some x → ValueFound event a.e place index q → x.start ≤ x.end
-  value-ordered h w = (found-value event a.e place index h w).order
-
-  pub value-packed :
-      {x : TextAt} → q ≡ Some x → ValueFound event a.e place index q →
-      (x.end - x.start) % 268435456 + x.start % 268435456 * 268435456 ≡ packed_part (value_call table event place index)
-  unfolding packed_part
-  value-packed {x} h w =
-      let v = found-value event a.e place index h w in
-      ap (λ (n : ℕ). n % 268435456 + x.start % 268435456 * 268435456) (sym (part_length event x.start x.end v.order v.within))
-      ∙ ap packed_part (sym (value-is table event place index ps ats r a x.start x.end v))
+pub value-packed :
+    {table event : List ℕ} {place index : ℕ} {x : TextAt} → PartTold table event place index x →
+    (x.end - x.start) % 268435456 + x.start % 268435456 * 268435456 ≡ packed_part (value_call table event place index)
+unfolding packed_part
+value-packed {event = event} {x = x} v =
+    ap (λ (n : ℕ). n % 268435456 + x.start % 268435456 * 268435456) (sym (part_length event x.start x.end v.order v.within))
+    ∙ ap packed_part (sym v.is)

@@ -11,18 +11,16 @@ ghost use Rattle.batch.specs.Batch.{batch_call};
 ghost use Rattle.report.specs.Report.{report_call};
 ghost use Rattle.interface.specs.Packing.{chosen, packed, packed_opened, version_or, version_after, packed_part};
 
-use crate::pack::{pack_batch, pack_combined, pack_opened, pack_reply};
+use crate::pack::{pack_batch, pack_opened, pack_reply};
 use batch::calls::batch;
 use combining::check::check_event;
 use combining::combine::combine;
-use event::ask::{ask_event, type_name};
-use event::lookup::find_value;
-use event::read::{EventCounts, read_event};
+use event::ask::value_at;
 use hashing::calls::{hash, hash_text};
-use ontology::tables::{check_table, read_table};
+use ontology::tables::check_table;
 use opening::calls::open_dossier;
 use replies::limits::Limits;
-use replies::reply::{Finding, Opened, Reply, TableReply};
+use replies::reply::{Finding, Opened, Refusal};
 use report::calls::report;
 
 #[unsafe(no_mangle)]
@@ -30,8 +28,8 @@ pub extern "C" fn merger_check_table(table: &[u8]) -> u64
     ensures { result ≡ packed (table_call table.now) }
 {
     match check_table(table) {
-        TableReply::Accepted => pack_reply(Reply::Done(0)),
-        TableReply::Refused(n) => pack_reply(Reply::Refused(n)),
+        Ok(()) => pack_reply(Ok(0)),
+        Err(refusal) => pack_reply(Err(refusal)),
     }
 }
 
@@ -58,7 +56,7 @@ pub extern "C" fn merger_combine<'a>(
     ensures out_after { out.new ≡ (combine_call (chosen versions parents objects)
         table.now left.now right.now out.old).bytes }
 {
-    pack_combined(combine(
+    pack_reply(combine(
         Limits {
             versions,
             parents,
@@ -82,13 +80,13 @@ fn finding_version(f: Finding, old: u64) -> u64
 }
 
 // The event version of a conflict, or what was there before.
-fn conflict_version(r: Opened, old: u64) -> u64
+fn conflict_version(r: Result<Opened, Refusal>, old: u64) -> u64
     ensures { result ≡ version_after (open_replied r) old }
 {
     match r {
-        Opened::Merged(_) => old,
-        Opened::Found(f) => finding_version(f, old),
-        Opened::Refused(_) => old,
+        Ok(Opened::Merged(_)) => old,
+        Ok(Opened::Found(f)) => finding_version(f, old),
+        Err(_) => old,
     }
 }
 
@@ -125,17 +123,8 @@ pub extern "C" fn merger_open(
 pub extern "C" fn merger_value(table: &[u8], event: &[u8], place: usize, index: usize) -> u64
     ensures { result ≡ packed_part (value_call table.now event.now place index) }
 {
-    let mut properties = [0usize; 96];
-    let mut sets = [0usize; 96];
-    let read = read_table(table, type_name(event), &mut properties);
-    let e = read_event(event, EventCounts::Wide, &mut sets);
-    let number = ask_event(event, e, &sets, read, &properties);
-    if number != 0 {
-        return 0;
-    }
-    match find_value(event, e, &sets, place, index) {
-        Some(at) => (at.end - at.start) as u64 % 268435456
-            + at.start as u64 % 268435456 * 268435456,
+    match value_at(table, event, place, index) {
+        Some(x) => (x.end - x.start) as u64 % 268435456 + x.start as u64 % 268435456 * 268435456,
         None => 0,
     }
 }

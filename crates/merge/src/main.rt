@@ -6,7 +6,6 @@ ghost use Rattle.std.specs.Io.KnownBytes.{Appends};
 ghost use Rattle.std.specs.Prelude.{◌≡◌, IfSome, OnOk, length};
 
 use input::read_full;
-use replies::reply::Reply;
 use report::calls::report;
 use std::io;
 use std::io::{Read, Write};
@@ -31,8 +30,8 @@ fn print_report<W: Write>(writer: &mut W, input: &[u8]) -> io::Result<()>
 {
     let mut out = report_buffer();
     match report(input, &mut out) {
-        Reply::Done(n) => writer.write_all(&out[..n]),
-        Reply::Refused(_) => Ok(()),
+        Ok(n) => writer.write_all(&out[..n]),
+        Err(_) => Ok(()),
     }
 }
 

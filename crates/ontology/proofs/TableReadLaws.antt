@@ -8,25 +8,26 @@ use native.Mathlib.Omega.{arith}
 use lib.ListN.{length, drop, drop_of_length-le}
 use lib.Dec.{leb}
 use Rattle.model.specs.Order.{Text, texts, equal, rising}
-use Rattle.model.proofs.Cases.{and_parts}
+use borrow.Author.Tests.{not-true, not-false}
+use Rattle.model.proofs.Cases.{never, and_parts}
 use Rattle.packed.specs.Parse.{Parse, fail, got, Layout, and_then, found_if, such_that, times}
 use Rattle.packed.specs.Packed.{read_number, part, is_within}
 use Rattle.packed.proofs.LayoutLaws.{such_that-got}
 use Rattle.packed.proofs.ReadLaws.{drop-next}
 use Rattle.packed.specs.code.Located.{Got}
 use Rattle.packed.specs.code.Comparison.{precedes}
-use Rattle.replies.specs.Answers.{Reply}
-use Rattle.replies.specs.declared.reply.TableReply.TheVariants.{Accepted, Refused}
+use Rattle.replies.specs.declared.reply.Refusal.TheVariants.{BadTable}
 use Rattle.replies.specs.Replies.{table_replied}
 use Rattle.ontology.specs.Table.{EventType, Table, is_name, is_name_within, names_rise, type_rules, type_named}
 use Rattle.ontology.specs.TableLayout.{read_type, read_table, table_of}
 use Rattle.ontology.specs.TableCall.{reply_to_table, table_call}
 use Rattle.ontology.specs.declared.types.TypeIndex.{TypeIndex}
-use Rattle.ontology.specs.declared.tables.TableRead.{TableRead}
-use Rattle.ontology.specs.code.TypeIndex.{TypeIs, TypeStops, TypeSays, TableSays}
+use Rattle.ontology.specs.code.TypeIndex.{TypeIs, TypeStops, TypeSaid, TypeSays, TableSaid}
 use Rattle.ontology.proofs.RunLaws.{prepend, prepend-nil, prepend-two, such-stop, such-bad, such-more, such-end}
 use Rattle.ontology.proofs.TurnLaws.{rise-step, rise-from}
 use Rattle.ontology.proofs.TypeLaws.{rules-hold}
+use Rattle.std.specs.Prelude as std
+use Rattle.std.specs.Prelude.{Some, None, Ok, Err, is_some}
 
 -- a type that meets its rules
 abbrev read_ruled : Layout EventType
@@ -90,67 +91,65 @@ table-from s {n} {next} g =
     ap (λ (p : Parse ℕ). and_then p (λ count r. and_then (times read_ruled count r) (λ ts. found_if (names_rise (map name_of ts)) ts))) g.is
     ∙ all_from n (drop next s)
 
-pub table-fail : (s : List ℕ) (name : Text) (ps : List ℕ) (r : TableRead) → read_table s ≡ fail → r.ok ≡ false →
-    TableSays (table_of s) s name ps r
-unfolding TableSays table_of
-table-fail s name ps r e h = rw e h
+pub table-fail : (s : List ℕ) → read_table s ≡ fail → table_of s ≡ none
+unfolding table_of
+table-fail s e = rw e
 
 -- what r says of the numbers ps it says of others, if these are the same where the type is found
-says-stay : (o : Option EventType) (s ps qs : List ℕ) (r : TableRead) → TypeSays o s ps r → (r.found ≡ true → qs ≡ ps) → TypeSays o s qs r
-unfolding TypeSays
-says-stay none s ps qs r w h = w
-says-stay (some t) s ps qs r w h = (w.0, subst (TypeIs s t r.index) (sym (h w.0)) w.1)
+says-stay :
+    (o : Option EventType) (s ps qs : List ℕ) (r : std.Option TypeIndex) → (is_some r ≡ true → qs ≡ ps) → TypeSays o s ps r → TypeSays o s qs r
+says-stay o s ps qs (Some x) h w = subst (λ (ns : List ℕ). TypeSaid o s ns x) (sym (h refl)) w
+says-stay o s ps qs None h w = w
 
 -- The types before `at` are read, and r and the numbers ps have the type of the name among them
-pub record Listed (s : List ℕ) (name : Text) (ps : List ℕ) (r : TableRead) (left at start end : ℕ) : Type 0 where
+pub record Listed (s : List ℕ) (name : Text) (ps : List ℕ) (r : std.Option TypeIndex) (left at start end : ℕ) : Type 0 where
   pub before : List EventType
   pub rest : read_table s ≡ prepend before (types_from (part s start end) left (drop at s))
   pub within : at ≤ length s
   pub order : start ≤ end
   pub ends : end ≤ length s
-  pub unset : r.ok ≡ false
   pub says : TypeSays (type_named name before) s ps r
 
 pub listed-none :
-    (s : List ℕ) (name : Text) (ps : List ℕ) (r : TableRead) {n left next : ℕ} → Got (such_that (is_within 1 16) read_number (drop 0 s)) s 0 n next →
-    n ≡ left → r.ok ≡ false → r.found ≡ false → Listed s name ps r left next 0 0
-unfolding TypeSays type_named
-listed-none s name ps r {n} {left} {next} g e h k = record {
+    (s : List ℕ) (name : Text) (ps : List ℕ) {n left next : ℕ} → Got (such_that (is_within 1 16) read_number (drop 0 s)) s 0 n next → n ≡ left →
+    Listed s name ps None left next 0 0
+unfolding type_named
+listed-none s name ps {n} {left} {next} g e = record {
   before = [];
   rest = table-from s g ∙ prepend-nil (types_from [] n (drop next s)) ∙ ap (λ (m : ℕ). prepend [] (types_from [] m (drop next s))) e;
   within = g.within;
   order = omega arith;
   ends = omega arith;
-  unset = h;
-  says = k;
+  says = refl;
 }
 
-module _ {s : List ℕ} {name : Text} {ps : List ℕ} {r : TableRead} {left at start end : ℕ} (w : Listed s name ps r left at start end) where
+module _ {s : List ℕ} {name : Text} {ps : List ℕ} {r : std.Option TypeIndex} {left at start end : ℕ} (w : Listed s name ps r left at start end) where
   -- where what is left fails, the table does
-  failed : (qs : List ℕ) → types_from (part s start end) left (drop at s) ≡ fail → TableSays (table_of s) s name qs r
-  failed qs e = table-fail s name qs r (w.rest ∙ ap (prepend w.before) e) w.unset
+  failed : types_from (part s start end) left (drop at s) ≡ fail → table_of s ≡ none
+  failed e = table-fail s (w.rest ∙ ap (prepend w.before) e)
 
-  pub listed-bad : (qs : List ℕ) → 0 < left → read_ruled (drop at s) ≡ fail → TableSays (table_of s) s name qs r
-  listed-bad qs h e = failed qs (types-none (part s start end) left (drop at s) h e)
+  pub listed-bad : 0 < left → read_ruled (drop at s) ≡ fail → table_of s ≡ none
+  listed-bad h e = failed (types-none (part s start end) left (drop at s) h e)
 
   -- a further type is read into the numbers ps', which stay where the type of the name is found
   module _
-      {ps' : List ℕ} {x : TypeIndex} {next : ℕ} (h : 0 < left) (g : TypeStops (read_ruled (drop at s)) s at (not r.found) ps' x next)
+      {keep : Bool} {ps' : List ℕ} {x : TypeIndex} {next : ℕ} (h : 0 < left) (g : TypeStops (read_ruled (drop at s)) s at keep ps' x next)
     where
       -- the names, where the type's stands in the bytes
       named_here : {b : Bool} → b ≡ precedes (part s start end) (part s x.start x.end) → precedes (part s start end) g.what.name ≡ b
       named_here e = ap (precedes (part s start end)) (sym g.name) ∙ sym e
 
-      pub listed-low : (qs : List ℕ) → false ≡ precedes (part s start end) (part s x.start x.end) → TableSays (table_of s) s name qs r
-      listed-low qs n = failed qs (types-low (part s start end) left (drop at s) g.what (drop next s) h g.stops.is (named_here n))
+      pub listed-low : false ≡ precedes (part s start end) (part s x.start x.end) → table_of s ≡ none
+      listed-low n = failed (types-low (part s start end) left (drop at s) g.what (drop next s) h g.stops.is (named_here n))
 
       pub listed_more :
-          {q : TableRead} {others : ℕ} → left - 1 ≡ others → true ≡ precedes (part s start end) (part s x.start x.end) → q.ok ≡ r.ok →
+          {q : std.Option TypeIndex} {others : ℕ} → left - 1 ≡ others → true ≡ precedes (part s start end) (part s x.start x.end) →
+          is_some r ≡ not keep →
           ((ts : List EventType) (u : EventType) (ns : List ℕ) → TypeSays (type_named name ts) s ns r →
-          (r.found ≡ false → TypeIs s u x ns) →
+          (r ≡ None → TypeIs s u x ns) →
           TypeSays (type_named name (ts ++ (u ∷ []))) s ns q) →
-          (not r.found ≡ false → ps' ≡ ps) → Listed s name ps' q others next x.start x.end
-      listed_more {others = others} e n o kept stay = record {
+          (keep ≡ false → ps' ≡ ps) → Listed s name ps' q others next x.start x.end
+      listed_more {others = others} e n k kept stay = record {
         before = w.before ++ (g.what ∷ []);
         rest =
             w.rest
@@ -160,10 +159,9 @@ module _ {s : List ℕ} {name : Text} {ps : List ℕ} {r : TableRead} {left at s
         within = g.stops.within;
         order = g.order;
         ends = g.ends;
-        unset = o ∙ w.unset;
         says =
-            kept w.before g.what ps' (says-stay (type_named name w.before) s ps ps' r w.says (λ e. stay (ap not e)))
-            (λ e. g.is (ap not e));
+            kept w.before g.what ps' (says-stay (type_named name w.before) s ps ps' r (λ f. stay (not-true keep (sym k ∙ f))) w.says)
+            (λ f. g.is (not-false keep (sym k ∙ ap is_some f)));
       }
 
   listed-all : left ≤ 0 → read_table s ≡ got w.before (drop at s)
@@ -171,27 +169,23 @@ module _ {s : List ℕ} {name : Text} {ps : List ℕ} {r : TableRead} {left at s
       w.rest ∙ ap (prepend w.before) (types-end (part s start end) left (drop at s) (omega arith))
       ∙ ap (λ (l : List EventType). got l (drop at s)) (append-nil w.before)
 
-  pub listed-exact : left ≤ 0 → at ≡ length s → TableSays (table_of s) s name ps (record { ok = true; found = r.found; index = r.index })
-  unfolding TableSays TypeSays table_of
+  pub listed-exact : left ≤ 0 → at ≡ length s → TableSaid (table_of s) s name ps r
+  unfolding table_of
   listed-exact h e =
       let z : length s ≤ at = omega arith in
-      rw (listed-all h, drop_of_length-le s z) (refl, again (type_named name w.before) w.says)
-    where
-      again : (o : Option EventType) → TypeSays o s ps r → TypeSays o s ps (record { ok = true; found = r.found; index = r.index })
-      again none k = k
-      again (some t) k = k
+      record { what = w.before; is = rw (listed-all h, drop_of_length-le s z) refl; says = w.says }
 
-  pub listed-early : left ≤ 0 → (at ≡ length s → ⊥) → TableSays (table_of s) s name ps r
-  unfolding TableSays table_of
+  pub listed-early : left ≤ 0 → (at ≡ length s → ⊥) → table_of s ≡ none
+  unfolding table_of
   listed-early h e =
       let z : at < length s = omega (arith, w.within, e) in
-      rw (listed-all h, drop-next s at z) w.unset
+      rw (listed-all h, drop-next s at z) refl
 
 -- ---- the type of a name
 
 named_some : (n : Text) (ts : List EventType) (t u : EventType) → type_named n ts ≡ some u → type_named n (ts ++ (t ∷ [])) ≡ some u
 unfolding type_named
-named_some n [] t u e = let z : ◌≡◌ {A = ℕ} 0 1 = cc in absurd (omega arith)
+named_some n [] t u e = never (cc)
 named_some n (x ∷ ts) t u e = go (equal texts n x.name) (λ q. named_some n ts t u q) e
   where
     go :
@@ -210,60 +204,40 @@ named_none n (x ∷ ts) t e = go (equal texts n x.name) (λ q. named_none n ts t
     go :
         (b : Bool) → (type_named n ts ≡ none → type_named n (ts ++ (t ∷ [])) ≡ cond (equal texts n t.name) (some t) none) →
         cond b (some x) (type_named n ts) ≡ none → cond b (some x) (type_named n (ts ++ (t ∷ []))) ≡ cond (equal texts n t.name) (some t) none
-    go true f e = let z : ◌≡◌ {A = ℕ} 0 1 = cc in absurd (omega arith)
+    go true f e = never (cc)
     go false f e = f e
 
-module _ (n : Text) (ts : List EventType) (t : EventType) (s ps : List ℕ) (r : TableRead) (w : TypeSays (type_named n ts) s ps r) where
-  pub keep-old : r.found ≡ true → TypeSays (type_named n (ts ++ (t ∷ []))) s ps r
-  unfolding TypeSays
-  keep-old h = go (type_named n ts) refl w
-    where
-      go : (o : Option EventType) → type_named n ts ≡ o → TypeSays o s ps r → TypeSays (type_named n (ts ++ (t ∷ []))) s ps r
-      go none e k = let z : ◌≡◌ {A = ℕ} 0 1 = cc in absurd (omega arith)
-      go (some u) e k = rw (named_some n ts t u e) k
+module _ (n : Text) (ts : List EventType) (t : EventType) (s ps : List ℕ) where
+  pub keep-old :
+      (r : std.Option TypeIndex) → is_some r ≡ true → TypeSays (type_named n ts) s ps r → TypeSays (type_named n (ts ++ (t ∷ []))) s ps r
+  keep-old (Some y) h w = record { what = w.what; is = named_some n ts t w.what w.is; typed = w.typed }
+  keep-old None h w = never (cc)
 
-  none_yet : r.found ≡ false → type_named n ts ≡ none
-  unfolding TypeSays
-  none_yet h = go (type_named n ts) w
-    where
-      go : (o : Option EventType) → TypeSays o s ps r → o ≡ none
-      go none k = refl
-      go (some u) k = let y = k.0 in let z : ◌≡◌ {A = ℕ} 0 1 = cc in absurd (omega arith)
-
-  -- x is the next type, whose name stands in the bytes
-  module _ (x : TypeIndex) (h : r.found ≡ false) (is : r.found ≡ false → TypeIs s t x ps) where
-    now-named : {b : Bool} → b ≡ equal texts n (part s x.start x.end) → type_named n (ts ++ (t ∷ [])) ≡ cond b (some t) none
-    now-named e =
-        named_none n ts t (none_yet h) ∙ ap (λ (b : Bool). cond b (some t) none) (ap (equal texts n) (sym (is h).name) ∙ sym e)
+  -- none is found yet, and x is the next type, whose name stands in the bytes
+  module _ (x : TypeIndex) where
+    now-named :
+        {b : Bool} → type_named n ts ≡ none → TypeIs s t x ps → b ≡ equal texts n (part s x.start x.end) →
+        type_named n (ts ++ (t ∷ [])) ≡ cond b (some t) none
+    now-named h is e = named_none n ts t h ∙ ap (λ (b : Bool). cond b (some t) none) (ap (equal texts n) (sym is.name) ∙ sym e)
 
     pub keep-new :
-        true ≡ equal texts n (part s x.start x.end) →
-        TypeSays (type_named n (ts ++ (t ∷ []))) s ps (record { ok = r.ok; found = true; index = x })
-    unfolding TypeSays
-    keep-new e = rw (now-named e) (refl, is h)
+        (r : std.Option TypeIndex) → is_some r ≡ false → TypeSays (type_named n ts) s ps r → (r ≡ None → TypeIs s t x ps) →
+        true ≡ equal texts n (part s x.start x.end) → TypeSaid (type_named n (ts ++ (t ∷ []))) s ps x
+    keep-new None h w is e = record { what = t; is = now-named w (is refl) e; typed = is refl }
+    keep-new (Some y) h w is e = never (cc)
 
-    pub keep-none : false ≡ equal texts n (part s x.start x.end) → TypeSays (type_named n (ts ++ (t ∷ []))) s ps r
-    unfolding TypeSays
-    keep-none e = rw (now-named e) h
+    pub keep-none :
+        (r : std.Option TypeIndex) → is_some r ≡ false → TypeSays (type_named n ts) s ps r → (r ≡ None → TypeIs s t x ps) →
+        false ≡ equal texts n (part s x.start x.end) → TypeSays (type_named n (ts ++ (t ∷ []))) s ps r
+    keep-none None h w is e = now-named w (is refl) e
+    keep-none (Some y) h w is e = never (cc)
 
 -- ---- the call
 
-pub reply-refused :
-    (s : List ℕ) (name : Text) (ps : List ℕ) (r : TableRead) →
-    TableSays (table_of s) s name ps r → r.ok ≡ false → table_replied (Refused 2) ≡ table_call s
-unfolding TableSays table_replied table_call reply_to_table
-reply-refused s name ps r w h = go (table_of s) w
-  where
-    go : (o : Option Table) → TableSays o s name ps r → Reply.refused 2 ≡ reply_to_table o
-    go none k = refl
-    go (some ts) k = let y = k.0 in let z : ◌≡◌ {A = ℕ} 0 1 = cc in absurd (omega arith)
+pub reply-refused : (s : List ℕ) → table_of s ≡ none → table_replied (Err BadTable) ≡ table_call s
+unfolding table_replied table_call reply_to_table
+reply-refused s e = rw e
 
-pub reply-accepted :
-    (s : List ℕ) (name : Text) (ps : List ℕ) (r : TableRead) →
-    TableSays (table_of s) s name ps r → r.ok ≡ true → table_replied Accepted ≡ table_call s
-unfolding TableSays table_replied table_call reply_to_table
-reply-accepted s name ps r w h = go (table_of s) w
-  where
-    go : (o : Option Table) → TableSays o s name ps r → Reply.done 0 ≡ reply_to_table o
-    go none k = let z : ◌≡◌ {A = ℕ} 0 1 = cc in absurd (omega arith)
-    go (some ts) k = refl
+pub reply-accepted : (s : List ℕ) {ts : Table} → table_of s ≡ some ts → table_replied (Ok tt) ≡ table_call s
+unfolding table_replied table_call reply_to_table
+reply-accepted s e = rw e

@@ -1,6 +1,6 @@
 -- What is known of a type that a table has, and of its properties: for the callers of `read_table`.
 use mathlib.Core.Path.{◌≡◌, refl, sym, ap, ap₂, ◌∙◌, subst}
-use mathlib.Core.Bool.{Bool, true, false, ◌||◌}
+use mathlib.Core.Bool.{Bool, true, ◌||◌}
 use mathlib.Core.Option.{Option, none, some}
 use mathlib.Core.List.{List, [], ◌∷◌}
 use Prim.Native.Nat.{ℕ, suc, ◌≤◌}
@@ -13,8 +13,12 @@ use Rattle.ontology.specs.Table.{Strategy, min, max, replace, match, strategy_nu
 use Rattle.ontology.specs.Table.{Property, EventType, Table, type_rules, type_named}
 use Rattle.ontology.specs.TableLayout.{table_of}
 use Rattle.ontology.specs.declared.properties.PropertyAt.{PropertyAt}
-use Rattle.ontology.specs.declared.tables.TableRead.{TableRead}
-use Rattle.ontology.specs.code.TypeIndex.{PropertyIs, has_strategy, has_min, has_max, has_extreme, has_replace, has_match, TypeIs, TypeSays, TableSays}
+use Rattle.ontology.specs.declared.types.TypeIndex.{TypeIndex}
+use Rattle.ontology.specs.code.TypeIndex.{PropertyIs, has_strategy, has_min, has_max, has_extreme, has_replace, has_match}
+use Rattle.ontology.specs.code.TypeIndex.{TypeIs, TypeSaid, TypeSays, TableSaid, TableSays}
+use Rattle.std.specs.Option.{option_flatten}
+use Rattle.std.specs.Prelude as std
+use Rattle.std.specs.Prelude.{Some, None}
 pub use Rattle.ontology.proofs.NameLaws.{name-length}
 use Rattle.ontology.proofs.RunLaws.{all-at}
 use Rattle.ontology.proofs.TableLayoutLaws.{PropertyWritten, TypeWritten, table-was}
@@ -62,57 +66,47 @@ module _ (s : List ℕ) (n : Text) (ts : Table) (t : EventType) (e : table_of s 
   pub properties-rules : (i : ℕ) (q : Property) → get_elem? t.properties i ≡ some q → PropertyWritten q
   properties-rules i q k = all-at PropertyWritten t.properties type-written.1.properties i q k
 
--- ---- what a caller of `read_table` has
+-- ---- what a caller of `read_table` has, whose answer is r
 
-pub table-refused : (s : List ℕ) (n : Text) (ps : List ℕ) (r : TableRead) → TableSays (table_of s) s n ps r → r.ok ≡ false → table_of s ≡ none
-unfolding TableSays
-table-refused s n ps r w h = go (table_of s) w
-  where
-    go : (o : Option Table) → TableSays o s n ps r → o ≡ none
-    go none k = refl
-    go (some ts) k = never (cc k.0)
+module _ (s : List ℕ) (n : Text) (ps : List ℕ) (r : std.Option (std.Option TypeIndex)) where
+  pub table-refused : TableSays (table_of s) s n ps r → r ≡ None → table_of s ≡ none
+  table-refused w h = subst (TableSays (table_of s) s n ps) h w
 
-pub record TableGot (s : List ℕ) (n : Text) (ps : List ℕ) (r : TableRead) : Type 0 where
-  pub what : Table
-  pub is : table_of s ≡ some what
-  pub says : TypeSays (type_named n what) s ps r
+  pub table_got : {x : std.Option TypeIndex} → TableSays (table_of s) s n ps r → r ≡ Some x → TableSaid (table_of s) s n ps x
+  table_got w h = subst (TableSays (table_of s) s n ps) h w
 
-pub table_got : (s : List ℕ) (n : Text) (ps : List ℕ) (r : TableRead) → TableSays (table_of s) s n ps r → r.ok ≡ true → TableGot s n ps r
-unfolding TableSays
-table_got s n ps r w h = go (table_of s) refl w
-  where
-    go : (o : Option Table) → table_of s ≡ o → TableSays o s n ps r → TableGot s n ps r
-    go none e k = never (cc)
-    go (some ts) e k = record { what = ts; is = e; says = k.1 }
+  -- what was read for a name was read for the same name
+  pub says_same :
+      (m : Text) {b : Bool} → b ≡ equal texts n m → b ≡ true → TableSays (table_of s) s n ps r → TableSays (table_of s) s m ps r
+  says_same m e h = subst (λ (x : Text). TableSays (table_of s) s x ps r) ((texts-equal n m).0 (sym e ∙ h))
 
 -- so of the types that the table is known to have
 pub type-says :
-    (s : List ℕ) (n : Text) (ps : List ℕ) (r : TableRead) (ts : Table) →
-    table_of s ≡ some ts → TableSays (table_of s) s n ps r → TypeSays (type_named n ts) s ps r
-unfolding TableSays
-type-says s n ps r ts e w = (subst (λ (o : Option Table). TableSays o s n ps r) e w).1
+    (s : List ℕ) (n : Text) (ps : List ℕ) (r : std.Option TypeIndex) (ts : Table) →
+    table_of s ≡ some ts → TableSaid (table_of s) s n ps r → TypeSays (type_named n ts) s ps r
+type-says s n ps r ts e w = let k : w.what ≡ ts = cc (w.is) in subst (λ (t : Table). TypeSays (type_named n t) s ps r) k w.says
 
--- what was read for a name was read for the same name
-pub says_same :
-    (s : List ℕ) (n m : Text) (ps : List ℕ) (r : TableRead) {b : Bool} →
-    b ≡ equal texts n m → b ≡ true → TableSays (table_of s) s n ps r → TableSays (table_of s) s m ps r
-says_same s n m ps r e h = subst (λ (x : Text). TableSays (table_of s) s x ps r) ((texts-equal n m).0 (sym e ∙ h))
+-- such a table is not refused
+pub known-says :
+    (s : List ℕ) (n : Text) (ps : List ℕ) (r : std.Option (std.Option TypeIndex)) (ts : Table) →
+    table_of s ≡ some ts → TableSays (table_of s) s n ps r → TypeSays (type_named n ts) s ps (option_flatten r)
+known-says s n ps (Some x) ts e w = type-says s n ps x ts e w
+known-says s n ps None ts e w = never (cc)
 
 -- the type that was asked for, where there is one
-pub type-absent : (o : Option EventType) (s ps : List ℕ) (r : TableRead) → TypeSays o s ps r → r.found ≡ false → o ≡ none
-unfolding TypeSays
-type-absent none s ps r w h = refl
-type-absent (some t) s ps r w h = never (cc w.0)
+module _ (o : Option EventType) (s ps : List ℕ) (r : std.Option TypeIndex) where
+  pub type-absent : TypeSays o s ps r → r ≡ None → o ≡ none
+  type-absent w h = subst (TypeSays o s ps) h w
 
-pub record TypeFound (o : Option EventType) (s ps : List ℕ) (r : TableRead) : Type 0 where
-  pub what : EventType
-  pub is : o ≡ some what
-  pub stands : TypeIs s what r.index ps
+  pub type-found : {x : TypeIndex} → TypeSays o s ps r → r ≡ Some x → TypeSaid o s ps x
+  type-found w h = subst (TypeSays o s ps) h w
 
-pub type-found : (o : Option EventType) (s ps : List ℕ) (r : TableRead) → TypeSays o s ps r → r.found ≡ true → TypeFound o s ps r
-unfolding TypeSays
-type-found none s ps r w h = never (cc)
-type-found (some t) s ps r w h = record { what = t; is = refl; stands = w.1 }
+  pub found-few : {x : TypeIndex} → TypeSays o s ps r → r ≡ Some x → x.count ≤ 32
+  found-few w h = (type-found w h).typed.are.few
 
-pub found-few : (o : Option EventType) (s ps : List ℕ) (r : TableRead) → TypeSays o s ps r → r.found ≡ true → r.index.count ≤ 32
-found-few o s ps r w h = (type-found o s ps r w h).stands.are.few
+-- so of the type that is known to be there
+pub type-there :
+    (o : Option EventType) (s ps : List ℕ) (r : std.Option TypeIndex) (t : EventType) →
+    o ≡ some t → TypeSays o s ps r → (x : TypeIndex) × (r ≡ Some x) × TypeIs s t x ps
+type-there o s ps (Some x) t e w = let k : w.what ≡ t = cc (w.is) in (x, refl, subst (λ (u : EventType). TypeIs s u x ps) k w.typed)
+type-there o s ps None t e w = never (cc)

@@ -25,17 +25,6 @@ pub struct TypeIndex {
     pub count: usize,
 }
 
-// An index to begin with.
-pub fn no_type() -> TypeIndex {
-    TypeIndex {
-        start: 0,
-        end: 0,
-        definition: DefinitionVersion(0),
-        mark: 0,
-        count: 0,
-    }
-}
-
 // What stands before the properties of a type, and the position after it. The count of properties is tested here, before any is read.
 fn read_head(table: &[u8], at: usize) -> Option<(TypeIndex, usize)>
     ensures { HeadReads table.now at result }

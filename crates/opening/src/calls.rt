@@ -1,4 +1,4 @@
-ghost use Rattle.std.specs.Prelude.{◌*◌, ◌≤◌, ◌≡◌, length};
+ghost use Rattle.std.specs.Prelude.{◌*◌, ◌≤◌, ◌≡◌, length, Ok};
 ghost use Rattle.model.specs.Limits.{Permitted};
 ghost use Rattle.model.specs.Sets.{up_to};
 ghost use Rattle.model.specs.Opening.{no_conflict, conflict, opening};
@@ -15,13 +15,12 @@ ghost use Rattle.opening.specs.code.OpenIndex.{Openable};
 use crate::conflict::find_conflict;
 use crate::merge::{find_overfull, plan_sets};
 use crate::write::write_event;
-use dossier::dossiers::{DossierIndex, read_dossier, snapshot_count};
-use dossier::questions::{ask_dossier, type_name};
-use ontology::tables::read_table;
+use dossier::dossiers::{DossierIndex, snapshot_count};
+use dossier::questions::accept;
 use ontology::types::TypeIndex;
 use replies::capacities::DOSSIER_CAPACITY;
 use replies::limits::{Limits, is_permitted};
-use replies::reply::{Finding, Opened};
+use replies::reply::{Finding, Opened, Refusal};
 
 // Without a conflict. Which place is overfull is known before the first byte is written.
 fn open_merged(
@@ -36,7 +35,7 @@ fn open_merged(
     requires openable { Openable s.now d rows.now t properties.now }
     ensures { (o : Openable s.now d rows.now t properties.now)
         → conflict (up_to 32) o.headed.snapshots ≡ no_conflict
-        → open_replies result out.new
+        → open_replies (Ok result) out.new
         ≡ outcome (opened_answer o.headed (opening (type_view o.type) (model_of o.headed))) out.old }
 {
     let mut plan = [0usize; 128];
@@ -59,7 +58,7 @@ fn open_asked(
     requires count_in_bounds { (96 * d.count ≤ length rows.now) × (length properties.now ≡ 96) × (dossier_capacity ≤ length out.old) }
     requires openable { Openable s.now d rows.now t properties.now }
     ensures { (o : Openable s.now d rows.now t properties.now)
-        → open_replies result out.new
+        → open_replies (Ok result) out.new
         ≡ outcome (opened_answer o.headed (opening (type_view o.type) (model_of o.headed))) out.old }
 {
     match find_conflict(d) {
@@ -75,35 +74,30 @@ fn open_with(
     dossier: &[u8],
     rows: &mut [usize],
     out: &mut [u8],
-) -> Opened
+) -> Result<Opened, Refusal>
     requires { Permitted (limits_of limits) × HasRows (limits_of limits) dossier.now (length rows.old) × (dossier_capacity ≤ length out.old) }
     ensures { open_replies result out.new ≡ open_call (limits_of limits) table.now dossier.now out.old }
 {
-    let d = read_dossier(dossier, limits, rows);
     let mut properties = [0usize; 96];
-    let read = read_table(table, type_name(dossier, d), &mut properties);
-    if !read.ok {
-        return Opened::Refused(2);
-    }
-    let number = ask_dossier(dossier, limits, d, rows, read, &properties);
-    if number != 0 {
-        return Opened::Refused(number);
-    }
-    let t = read.index;
-    open_asked(dossier, d, rows, t, &properties, out)
+    let (t, d) = accept(table, dossier, limits, &mut properties, rows)?;
+    Ok(open_asked(dossier, d, rows, t, &properties, out))
 }
 
 // The merged event of a dossier, written at the front of `out`. The rows of one snapshot are lent, or of as many as there can be, since clearing them all takes
 // longer than reading the count.
-pub fn open_dossier(limits: Limits, table: &[u8], dossier: &[u8], out: &mut [u8]) -> Opened
+pub fn open_dossier(
+    limits: Limits,
+    table: &[u8],
+    dossier: &[u8],
+    out: &mut [u8],
+) -> Result<Opened, Refusal>
     ensures { open_replies result out.new ≡ open_call (limits_of limits) table.now dossier.now out.old }
 {
-    let permitted = is_permitted(limits);
-    if !permitted {
-        return Opened::Refused(18);
+    if !is_permitted(limits) {
+        return Err(Refusal::BadLimits);
     }
     if out.len() < DOSSIER_CAPACITY {
-        return Opened::Refused(1);
+        return Err(Refusal::SmallBuffer);
     }
     if snapshot_count(dossier, limits) <= 1 {
         let mut one = [0usize; 96];

@@ -1,9 +1,7 @@
 // The cases of a script: each is the number of a call and its fields. A function answers the position after its case; None where the script has no case there.
 use crate::fields::{read_count, read_field, read_limits};
 use crate::lines;
-use crate::outputs::{
-    output, report_buffer, write_batch, write_combined, write_opened, write_reply,
-};
+use crate::outputs::{output, report_buffer, write_batch, write_opened, write_reply};
 use batch::calls::batch;
 use combining::check::check_event;
 use combining::combine::combine;
@@ -13,7 +11,7 @@ use ontology::tables::check_table;
 use opening::calls::open_dossier;
 use packed::read::read_number;
 use replies::limits::Limits;
-use replies::reply::{Reply, TableReply};
+use replies::reply::Refusal;
 use report::calls::report;
 use std::io;
 use std::io::Write;
@@ -22,8 +20,8 @@ use std::io::Write;
 fn replay_table(writer: &mut impl Write, script: &[u8], at: usize) -> Option<io::Result<usize>> {
     let (table, end) = read_field(script, at)?;
     let written = match check_table(table) {
-        TableReply::Accepted => write!(writer, "ok"),
-        TableReply::Refused(n) => lines::write_refusal(writer, n),
+        Ok(()) => write!(writer, "ok"),
+        Err(refusal) => lines::write_refusal(writer, refusal),
     };
     Some(written.and(Ok(end)))
 }
@@ -44,7 +42,7 @@ fn replay_value(writer: &mut impl Write, script: &[u8], at: usize) -> Option<io:
 }
 
 // A call with one input, by its number.
-fn call_one(call: u64, table: &[u8], input: &[u8], out: &mut [u8]) -> Reply {
+fn call_one(call: u64, table: &[u8], input: &[u8], out: &mut [u8]) -> Result<usize, Refusal> {
     match call {
         2 => check_event(table, input, out),
         6 => hash_text(table, input, out),
@@ -95,7 +93,7 @@ fn write_combine<'a>(
     out: &mut [u8],
 ) -> io::Result<()> {
     let r = combine(limits, table, left, right, out);
-    write_combined(writer, r, out)
+    write_reply(writer, r, out)
 }
 
 // 3, combine: the size of the output, the table, and the two dossiers. 10, combine within limits: the limits before these.
@@ -174,7 +172,7 @@ fn write_report(writer: &mut impl Write, input: &[u8]) -> io::Result<()> {
     let mut out = report_buffer();
     let r = report(input, &mut out);
     write!(writer, "report ")?;
-    if let Reply::Done(n) = r {
+    if let Ok(n) = r {
         if let Some(text) = out.get(..n) {
             lines::write_hex(writer, text)?;
         }

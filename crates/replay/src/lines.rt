@@ -1,12 +1,14 @@
 // What the program writes.
 ghost use Rattle.std.specs.Prelude.{◌≤◌, length};
 
+use replies::reply::Refusal;
 use report::lines;
 use std::io;
 use std::io::Write;
 
 // `refused N`
-pub fn write_refusal(writer: &mut impl Write, n: u8) -> io::Result<()> {
+pub fn write_refusal(writer: &mut impl Write, refusal: Refusal) -> io::Result<()> {
+    let n = refusal.number();
     write!(writer, "refused {n}")
 }
 

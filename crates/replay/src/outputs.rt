@@ -2,7 +2,7 @@
 ghost use Rattle.std.specs.Prelude.{◌≡◌, length};
 
 use crate::lines;
-use replies::reply::{BatchReply, Combined, Finding, Opened, Reply};
+use replies::reply::{BatchRefusal, Finding, Opened, Refusal};
 use std::io;
 use std::io::Write;
 
@@ -45,24 +45,20 @@ fn write_ok(writer: &mut impl Write, n: usize, out: &[u8]) -> io::Result<()> {
     write_given(writer, n, out)
 }
 
-fn write_refused(writer: &mut impl Write, n: u8, out: &[u8]) -> io::Result<()> {
-    lines::write_refusal(writer, n)?;
+fn write_refused(writer: &mut impl Write, refusal: Refusal, out: &[u8]) -> io::Result<()> {
+    lines::write_refusal(writer, refusal)?;
     write_kept(writer, out, 0)
 }
 
 // `ok HEX` or `refused N`
-pub fn write_reply(writer: &mut impl Write, r: Reply, out: &[u8]) -> io::Result<()> {
+pub fn write_reply(
+    writer: &mut impl Write,
+    r: Result<usize, Refusal>,
+    out: &[u8],
+) -> io::Result<()> {
     match r {
-        Reply::Done(n) => write_ok(writer, n, out),
-        Reply::Refused(n) => write_refused(writer, n, out),
-    }
-}
-
-// `ok HEX` or `refused N`
-pub fn write_combined(writer: &mut impl Write, r: Combined, out: &[u8]) -> io::Result<()> {
-    match r {
-        Combined::Done(n) => write_ok(writer, n, out),
-        Combined::Refused(n) => write_refused(writer, n, out),
+        Ok(n) => write_ok(writer, n, out),
+        Err(refusal) => write_refused(writer, refusal, out),
     }
 }
 
@@ -81,23 +77,31 @@ fn write_finding(writer: &mut impl Write, f: Finding, out: &[u8]) -> io::Result<
 }
 
 // `merged HEX`, what was found, or `refused N`
-pub fn write_opened(writer: &mut impl Write, r: Opened, out: &[u8]) -> io::Result<()> {
+pub fn write_opened(
+    writer: &mut impl Write,
+    r: Result<Opened, Refusal>,
+    out: &[u8],
+) -> io::Result<()> {
     match r {
-        Opened::Merged(n) => {
+        Ok(Opened::Merged(n)) => {
             write!(writer, "merged ")?;
             write_given(writer, n, out)
         }
-        Opened::Found(f) => write_finding(writer, f, out),
-        Opened::Refused(n) => write_refused(writer, n, out),
+        Ok(Opened::Found(f)) => write_finding(writer, f, out),
+        Err(refusal) => write_refused(writer, refusal, out),
     }
 }
 
 // `ok HEX` or `refused N POSITION`
-pub fn write_batch(writer: &mut impl Write, r: BatchReply, out: &[u8]) -> io::Result<()> {
+pub fn write_batch(
+    writer: &mut impl Write,
+    r: Result<usize, BatchRefusal>,
+    out: &[u8],
+) -> io::Result<()> {
     match r {
-        BatchReply::Done(n) => write_ok(writer, n, out),
-        BatchReply::Refused(n, position) => {
-            lines::write_refusal(writer, n)?;
+        Ok(n) => write_ok(writer, n, out),
+        Err(BatchRefusal { refusal, position }) => {
+            lines::write_refusal(writer, refusal)?;
             write!(writer, " {position}")?;
             write_kept(writer, out, 0)
         }

@@ -1,3 +1,4 @@
 pub mod QuestionLaws
 pub mod CapacityLaws
 pub mod RangeLaws
+pub mod RefusalLaws

@@ -29,34 +29,33 @@ use Rattle.packed.proofs.ReadLaws.{TextStops}
 use Rattle.replies.specs.Questions as questions
 use Rattle.replies.specs.Answers as answers
 use Rattle.replies.specs.Answers.{gives, Outcome, outcome}
-use Rattle.replies.specs.Replies.{replies, finding_of, open_replies, batch_replies}
-use Rattle.replies.specs.declared.reply.Reply.{Reply}
-use Rattle.replies.specs.declared.reply.Reply.TheVariants as reply
+use Rattle.replies.specs.Replies.{refusal_number, replied, replies, finding_of, open_replies, batch_replies}
+use Rattle.replies.specs.declared.reply.Refusal.{Refusal}
+use Rattle.replies.specs.declared.reply.Refusal.TheVariants.{SmallBuffer}
 use Rattle.replies.specs.declared.reply.Finding.{Finding}
 use Rattle.replies.specs.declared.reply.Opened.{Opened}
-use Rattle.replies.specs.declared.reply.Opened.TheVariants as opened
+use Rattle.replies.specs.declared.reply.Opened.TheVariants.{Merged, Found}
+use Rattle.replies.specs.declared.reply.BatchRefusal.{BatchRefusal}
 use Rattle.replies.specs.Capacities.{dossier_capacity, hash_capacity, report_capacity}
 use Rattle.replies.proofs.CapacityLaws.{has_room_lem}
 use Rattle.replies.proofs.RangeLaws.{in-range}
-use Rattle.replies.specs.declared.reply.BatchReply.{BatchReply}
-use Rattle.replies.specs.declared.reply.BatchReply.TheVariants as batch
 use Rattle.ontology.specs.Table.{Property, EventType, Table, is_single, type_named, at_place}
 use Rattle.ontology.specs.TableLayout.{table_of}
-use Rattle.ontology.specs.code.TypeIndex.{PropertiesAre, TypeIs, TypeSays, TableSays}
-use Rattle.ontology.specs.declared.tables.TableRead.{TableRead}
-use Rattle.ontology.proofs.TypeIndexLaws.{type-says}
+use Rattle.ontology.specs.code.TypeIndex.{PropertiesAre, TableSays}
+use Rattle.ontology.specs.declared.types.TypeIndex.{TypeIndex}
+use Rattle.ontology.proofs.TypeIndexLaws.{known-says, type-there}
 use Rattle.event.specs.Event.{Event, type_view, event_view, view}
-use Rattle.event.specs.EventLayout.{wide, event_of, event_bytes}
-use Rattle.event.specs.EventQuestions.{event_asked}
-use Rattle.event.specs.code.EventIndex.{EventReads, event_questions}
+use Rattle.event.specs.EventLayout.{wide, event_bytes}
+use Rattle.event.specs.Head.{Head, read_head}
+use Rattle.event.specs.EventQuestions.{Typed, event_asked}
+use Rattle.event.specs.code.EventIndex.{EventIs, EventAccepted, EventAnswers, event_questions}
 use Rattle.event.specs.declared.read.EventIndex.{EventIndex}
-use Rattle.event.proofs.AskLaws.{read-typed, read-accepted}
+use Rattle.event.proofs.AskLaws.{accepted-is}
 use Rattle.event.proofs.EventQuestionLaws.{choice-none}
-use Rattle.dossier.specs.DossierLayout.{Headed, dossier_of, dossier_bytes}
+use Rattle.dossier.specs.DossierLayout.{dossier_bytes}
 use Rattle.dossier.specs.DossierQuestions.{TypedDossier, dossier_asked}
-use Rattle.dossier.specs.code.DossierIndex.{DossierIs, DossierReads}
-use Rattle.dossier.specs.declared.dossiers.DossierIndex.{DossierIndex}
 use Rattle.dossier.proofs.AcceptedLaws.{dossier-taken}
+use Rattle.dossier.proofs.DossierLayoutLaws.{dossier-name}
 use Rattle.fips180.specs.Fips.{sha1_of}
 use Rattle.fips180.proofs.Laws.{length-sha1_of}
 use Rattle.hashing.specs.HashText.{event_text}
@@ -72,37 +71,61 @@ use Rattle.report.specs.Report.{report_call}
 use Rattle.report.specs.code.ReportIndex.{NumbersOf, PlaceNamed, LinesRoom, MergedAsked, opens, HasProperty, DossierOpens}
 use Rattle.report.proofs.LineLaws.{refused-short}
 use Rattle.report.proofs.ReportSizeLaws.{merged-short, finding-short}
+use Rattle.std.specs.Result.{IsOk}
+use Rattle.std.specs.Prelude.{Result, Ok, Err}
+use Rattle.std.specs.Prelude as std
 
 -- ---- a merged event
 
+pub accepted-same : {A : Type 0} {a b : A} → questions.accepted a ≡ questions.accepted b → a ≡ b
+accepted-same e = cc
+
 module _ {table bytes : List ℕ} {t : EventType} {e : Event} {room : ℕ} (m : MergedAsked table bytes t e room) where
   -- the call hash gives its hash
-  pub digest-is :
-      (r : Reply) (old new : List ℕ) → length old ≡ hash_capacity → replies r new ≡ hash_call table bytes old → new ≡ sha1_of (event_text t e)
-  digest-is r old new l h =
-      let all : length old ≤ length (sha1_of (event_text t e)) = omega (arith, l, length-sha1_of (event_text t e)) in
-      ap (λ (o : Outcome). o.bytes) (h ∙ hashed)
-      ∙ (ap (λ (d : List ℕ). sha1_of (event_text t e) ++ d) (drop_of_length-le old all) ∙ append-nil (sha1_of (event_text t e)))
-    where
-      hashed : hash_call table bytes old ≡ outcome (gives (sha1_of (event_text t e))) old
-      hashed = unfold hash_call hash_answer hash_text_asked in (rw (le-leb hash_capacity (length old) (omega arith), m.tabled, m.asked))
+  module _ (r : Result ℕ Refusal) (old new : List ℕ) (l : length old ≡ hash_capacity) (h : replies r new ≡ hash_call table bytes old) where
+    hashed : replies r new ≡ outcome (gives (sha1_of (event_text t e))) old
+    hashed = h ∙ unfold hash_call hash_answer hash_text_asked in (rw (le-leb hash_capacity (length old) (omega arith), m.tabled, m.asked))
 
-  pub taken : event_questions wide table bytes ≡ questions.accepted (record { type = t; event = e })
+    pub hash-ok : IsOk r
+    hash-ok = go r (ap (λ (o : Outcome). o.reply) hashed)
+      where
+        go : (r : Result ℕ Refusal) → replied r ≡ answers.Reply.done (length (sha1_of (event_text t e))) → IsOk r
+        go (Ok n) e = refl
+        go (Err q) e = never (cc)
+
+    pub digest-is : new ≡ sha1_of (event_text t e)
+    digest-is =
+        let all : length old ≤ length (sha1_of (event_text t e)) = omega (arith, l, length-sha1_of (event_text t e)) in
+        ap (λ (o : Outcome). o.bytes) hashed
+        ∙ (ap (λ (d : List ℕ). sha1_of (event_text t e) ++ d) (drop_of_length-le old all) ∙ append-nil (sha1_of (event_text t e)))
+
+  abbrev asked_so : Typed
+  asked_so = record { type = t; event = e }
+
+  pub taken : event_questions wide table bytes ≡ questions.accepted asked_so
   taken = rw m.tabled m.asked
 
-  -- the table was read for the name of its type, and the event was read
+  -- the table and the event were read and asked
   module _
-      {name ps ats : List ℕ} (r : TableRead) (x : EventIndex) (says : TableSays (table_of table) table name ps r)
-      (names : (y : Event) → event_of wide bytes ≡ some y → name ≡ y.head.type) (reads : EventReads (event_of wide bytes) bytes ats x) where
+      (ps ats : List ℕ) (r : Result (TypeIndex × EventIndex) Refusal)
+      (told : EventAnswers (event_questions wide table bytes) table bytes ps ats r) where
+    pub accepted_as : (x : TypeIndex × EventIndex) → r ≡ Ok x → EventAccepted (event_questions wide table bytes) table bytes ps ats x.0 x.1
+    accepted_as (y, x) is = accepted-is _ table bytes ps ats told is
+
     -- what the writer of its lines needs
-    abbrev pub lines-ready : {hash : List ℕ} → hash ≡ sha1_of (event_text t e) → LinesRoom table r.index.count ps bytes x ats hash room
-    lines-ready h = record {
-      type = t;
-      event = e;
-      are = (read-typed wide table bytes _ taken name ps r says names).are;
-      read = read-accepted wide table bytes _ taken ats x reads;
-      fits = omega (arith, m.fits, ap length (ap (hashed_lines t e) h));
-    }
+    abbrev pub lines-ready :
+        {x : TypeIndex × EventIndex} → r ≡ Ok x → {hash : List ℕ} → hash ≡ sha1_of (event_text t e) →
+        LinesRoom table x.0.count ps bytes x.1 ats hash room
+    lines-ready {x} is h =
+        let a = accepted_as x is in
+        let same : a.what ≡ asked_so = accepted-same (sym a.is ∙ taken) in
+        record {
+          type = t;
+          event = e;
+          are = subst (λ (w : Typed). PropertiesAre table w.type.properties x.0.count ps) same a.typed.are;
+          read = subst (λ (w : Typed). EventIs bytes w.event x.1 ats) same a.read;
+          fits = omega (arith, m.fits, ap length (ap (hashed_lines t e) h));
+        }
 
   pub lines-merged : {hash out new : List ℕ} {n : ℕ} → hash ≡ sha1_of (event_text t e) → Wrote out 0 (hashed_lines t e hash) new n →
       Wrote out 0 (merged_lines t e) new n
@@ -119,19 +142,16 @@ permitted-as e = subst Permitted (sym e) standard-permitted
 -- ---- the properties of a dossier's type
 
 pub properties-read :
-    (limits : Limits) → limits ≡ standard → (table bytes rows name ps : List ℕ) (i : DossierIndex) (r : TableRead) →
-    DossierReads (dossier_of limits bytes) bytes rows i →
-    ((h : Headed) → DossierIs bytes h i → name ≡ h.head.type) → TableSays (table_of table) table name ps r → (types : Table) (d : TypedDossier) →
-    table_of table ≡ some types → dossier_asked standard types bytes ≡ questions.accepted d → NumbersOf table d.type ps
-unfolding DossierReads TypeSays
-properties-read limits u table bytes rows name ps i r w n s types d e a =
+    (table bytes name ps : List ℕ) (r : std.Option (std.Option TypeIndex)) →
+    ((most : ℕ) (h : Head) (rest : List ℕ) → read_head most bytes ≡ got h rest → name ≡ h.type) → TableSays (table_of table) table name ps r →
+    (types : Table) (d : TypedDossier) → table_of table ≡ some types → dossier_asked standard types bytes ≡ questions.accepted d →
+    NumbersOf table d.type ps
+properties-read table bytes name ps r names says types d e a =
     let q = dossier-taken standard types bytes d a in
-    let read : dossier_of limits bytes ≡ some d.headed = ap (λ (l : Limits). dossier_of l bytes) u ∙ q.read in
-    let is : DossierIs bytes d.headed i = (subst (λ (m : Option Headed). DossierReads m bytes rows i) read w).1 in
-    let named : type_named name types ≡ some d.type = ap (λ (v : Text). type_named v types) (n d.headed is) ∙ q.typed in
-    let typed : TypeIs table d.type r.index ps =
-    (subst (λ (m : Option EventType). TypeSays m table ps r) named (type-says table name ps r types e s)).1 in
-    subst (λ (n : ℕ). PropertiesAre table d.type.properties n ps) typed.are.count typed.are
+    let named : type_named name types ≡ some d.type =
+    ap (λ (v : Text). type_named v types) (dossier-name bytes name names standard d.headed q.read) ∙ q.typed in
+    let there = type-there _ table ps _ d.type named (known-says table name ps r types e says) in
+    subst (λ (n : ℕ). PropertiesAre table d.type.properties n ps) there.2.are.count there.2.are
 
 -- ---- a dossier that is opened
 
@@ -150,16 +170,22 @@ pub record OpensMerged (d : TypedDossier) (new : List ℕ) (n : ℕ) : Type 0 wh
 front : (x y : List ℕ) (n : ℕ) (new : List ℕ) → n ≡ length x → new ≡ x ++ y → (take n new ≡ x) × (n ≤ length new)
 front x y n new h e = (ap₂ (λ (k : ℕ) (l : List ℕ). take k l) h e ∙ take-append_seam x y, omega (arith, h, ap length e, length-append x y))
 
-module _ (table bytes old new : List ℕ) {d : TypedDossier} {room : ℕ} (w : DossierOpens table bytes d room) (big : dossier_capacity ≤ length old)
-    (r : Opened) {limits : Limits} (u : limits ≡ standard) (e : open_replies r new ≡ open_call limits table bytes old) where
-  told : {x : Opened} → r ≡ x → open_replies x new ≡ outcome (opened_answer d.headed (opens d)) old
-  told q = ap (λ (x : Opened). open_replies x new) (sym q) ∙ e ∙ ap (λ (l : Limits). open_call l table bytes old) u ∙ opened-call table bytes old w big
+module _
+    (table bytes old new : List ℕ) {d : TypedDossier} {room : ℕ} (w : DossierOpens table bytes d room) (big : dossier_capacity ≤ length old)
+    {limits : Limits} (u : limits ≡ standard) where
+  told : (r : Result Opened Refusal) → open_replies r new ≡ open_call limits table bytes old →
+      open_replies r new ≡ outcome (opened_answer d.headed (opens d)) old
+  told r e = e ∙ ap (λ (l : Limits). open_call l table bytes old) u ∙ opened-call table bytes old w big
 
-  pub opened-merged : {n : ℕ} → r ≡ opened.Merged n → OpensMerged d new n
+  told-as : (o : Opened) → open_replies (Ok o) new ≡ open_call limits table bytes old → {p : Opened} → o ≡ p →
+      open_replies (Ok p) new ≡ outcome (opened_answer d.headed (opens d)) old
+  told-as o e q = ap (λ (x : Opened). open_replies (Ok x) new) (sym q) ∙ told (Ok o) e
+
+  pub opened-merged : (o : Opened) → open_replies (Ok o) new ≡ open_call limits table bytes old → {n : ℕ} → o ≡ Merged n → OpensMerged d new n
   unfolding opened_answer
-  opened-merged {n} q = go (opens d) refl (told q)
+  opened-merged o e {n} q = go (opens d) refl (told-as o e q)
     where
-      go : (o : model.Opened) → opens d ≡ o → open_replies (opened.Merged n) new ≡ outcome (opened_answer d.headed o) old → OpensMerged d new n
+      go : (o : model.Opened) → opens d ≡ o → open_replies (Ok (Merged n)) new ≡ outcome (opened_answer d.headed o) old → OpensMerged d new n
       go (finds g) f h = let z = ap (λ (x : Outcome). x.reply) h in never (cc)
       go (merged ss) f h =
           let z : answers.Reply.done n ≡ answers.Reply.done (length (event_bytes (merged_event d.headed ss))) = ap (λ (x : Outcome). x.reply) h in
@@ -167,19 +193,20 @@ module _ (table bytes old new : List ℕ) {d : TypedDossier} {room : ℕ} (w : D
           let k = front given (drop (length given) old) n new (cc) (ap (λ (x : Outcome). x.bytes) h) in
           record { sets = ss; is = f; bytes = k.0; within = k.1 }
 
-  pub opened-found : {f : Finding} → r ≡ opened.Found f → opens d ≡ finds (finding_of f)
+  pub opened-found : (o : Opened) → open_replies (Ok o) new ≡ open_call limits table bytes old → {f : Finding} → o ≡ Found f →
+      opens d ≡ finds (finding_of f)
   unfolding opened_answer
-  opened-found {f} q = go (opens d) (told q)
+  opened-found o e {f} q = go (opens d) (told-as o e q)
     where
-      go : (o : model.Opened) → open_replies (opened.Found f) new ≡ outcome (opened_answer d.headed o) old → o ≡ finds (finding_of f)
+      go : (o : model.Opened) → open_replies (Ok (Found f)) new ≡ outcome (opened_answer d.headed o) old → o ≡ finds (finding_of f)
       go (finds g) h = let z : answers.Reply.found (finding_of f) ≡ answers.Reply.found g = ap (λ (x : Outcome). x.reply) h in cc
       go (merged ss) h = let z = ap (λ (x : Outcome). x.reply) h in never (cc)
 
-  pub opened-refused : {n : ℕ} → r ≡ opened.Refused n → ⊥
+  pub opened-refused : (q : Refusal) → open_replies (Err q) new ≡ open_call limits table bytes old → ⊥
   unfolding opened_answer
-  opened-refused {n} q = go (opens d) (told q)
+  opened-refused q e = go (opens d) (told (Err q) e)
     where
-      go : (o : model.Opened) → open_replies (opened.Refused n) new ≡ outcome (opened_answer d.headed o) old → ⊥
+      go : (o : model.Opened) → open_replies (Err q) new ≡ outcome (opened_answer d.headed o) old → ⊥
       go (finds g) h = let z = ap (λ (x : Outcome). x.reply) h in never (cc)
       go (merged ss) h = let z = ap (λ (x : Outcome). x.reply) h in never (cc)
 
@@ -303,21 +330,19 @@ unfolding have_room
 rooms-have r (h, i, j, k) =
     rw (le-leb dossier_capacity r.output h, le-leb dossier_capacity r.first i, le-leb dossier_capacity r.second j, le-leb dossier_capacity r.third k)
 
-module _
-    (table events old new : List ℕ) (rooms : Rooms) (r : BatchReply) {limits : Limits} (u : limits ≡ standard)
-    (e : batch_replies r new ≡ batch_call limits rooms table events old) (have : Roomy rooms) where
-  batch-told : {x : BatchReply} → r ≡ x → batch_replies x new ≡ outcome (batch_given (batch_asked standard table events)) old
-  batch-told q =
-      ap (λ (x : BatchReply). batch_replies x new) (sym q)
-      ∙ e
+module _ (table events old new : List ℕ) (rooms : Rooms) (have : Roomy rooms) {limits : Limits} (u : limits ≡ standard) where
+  batch-told : (r : Result ℕ BatchRefusal) → batch_replies r new ≡ batch_call limits rooms table events old →
+      batch_replies r new ≡ outcome (batch_given (batch_asked standard table events)) old
+  batch-told r e =
+      e
       ∙ ap (λ (l : Limits). batch_call l rooms table events old) u
       ∙ unfold batch_call batch_answer in (rw (in-range standard standard-permitted, rooms-have rooms have))
 
-  pub batch-done : {n : ℕ} → r ≡ batch.Done n → BatchDone table events new n
+  pub batch-done : {n : ℕ} → batch_replies (Ok n) new ≡ batch_call limits rooms table events old → BatchDone table events new n
   unfolding batch_given
-  batch-done {n} q = go (batch_asked standard table events) refl (batch-told q)
+  batch-done {n} e = go (batch_asked standard table events) refl (batch-told (Ok n) e)
     where
-      go : (a : AskedAt TypedDossier) → batch_asked standard table events ≡ a → batch_replies (batch.Done n) new ≡ outcome (batch_given a) old →
+      go : (a : AskedAt TypedDossier) → batch_asked standard table events ≡ a → batch_replies (Ok n) new ≡ outcome (batch_given a) old →
           BatchDone table events new n
       go (refused_at m i) f h = let z = ap (λ (x : Outcome). x.reply) h in never (cc)
       go (accepted d) f h =
@@ -325,12 +350,17 @@ module _
           let k = front (dossier_bytes d.headed) (drop (length (dossier_bytes d.headed)) old) n new (cc) (ap (λ (x : Outcome). x.bytes) h) in
           record { what = d; is = f; bytes = k.0; within = k.1 }
 
-  pub batch-refused : {n i : ℕ} → r ≡ batch.Refused n i → batch_asked standard table events ≡ refused_at n i
+  pub batch-refused : (b : BatchRefusal) → batch_replies (Err b) new ≡ batch_call limits rooms table events old →
+      batch_asked standard table events ≡ refused_at (refusal_number b.refusal) b.position
   unfolding batch_given
-  batch-refused {n} {i} q = go (batch_asked standard table events) (batch-told q)
+  batch-refused b e = go (batch_asked standard table events) (batch-told (Err b) e)
     where
-      go : (a : AskedAt TypedDossier) → batch_replies (batch.Refused n i) new ≡ outcome (batch_given a) old → a ≡ refused_at n i
-      go (refused_at m j) h = let z : answers.Reply.refused_at n i ≡ answers.Reply.refused_at m j = ap (λ (x : Outcome). x.reply) h in cc
+      go : (a : AskedAt TypedDossier) → batch_replies (Err b) new ≡ outcome (batch_given a) old → a ≡ refused_at (refusal_number b.refusal) b.position
+      go (refused_at m j) h =
+          let z : answers.Reply.refused_at (refusal_number b.refusal) b.position ≡ answers.Reply.refused_at m j = ap (λ (x : Outcome). x.reply) h in
+          let i : refusal_number b.refusal ≡ m = cc in
+          let k : b.position ≡ j = cc in
+          sym (ap₂ (λ (n i : ℕ). refused_at n i) i k)
       go (accepted d) h = let z = ap (λ (x : Outcome). x.reply) h in never (cc)
 
 pub done-opens : {table events new : List ℕ} {n : ℕ} (b : BatchDone table events new n) (room : ℕ) → report_capacity ≤ room →
@@ -375,31 +405,31 @@ report-short input = go (leb (length input) most_input) (read_text input)
     go true (got table batch) = asked-short table batch
     go false p = omega (arith, refused-short 9 0)
 
-pub report-small : (input out : List ℕ) → length out < report_capacity → replies (reply.Refused 1) out ≡ report_call input out
+pub report-small : (input out : List ℕ) → length out < report_capacity → replies (Err SmallBuffer) out ≡ report_call input out
 unfolding report_call report_answer
 report-small input out h = rw (lt-leb report_capacity (length out) h)
 
 written : (input out lines : List ℕ) {new : List ℕ} {n : ℕ} → report_capacity ≤ length out → report input ≡ lines → Wrote out 0 lines new n →
-    replies (reply.Done n) new ≡ report_call input out
+    replies (Ok n) new ≡ report_call input out
 unfolding report_call report_answer
 written input out lines {new} {n} h e w =
     let m : n ≡ length lines = omega (arith, w.after) in
     let room : 0 + length lines ≤ length out = omega (arith, ap length e, report-short input, h) in
     rw (le-leb report_capacity (length out) h, e)
-    (ap₂ (λ (k : ℕ) (l : List ℕ). replies (reply.Done k) l) m (wrote-between room w ∙ ap (λ (k : ℕ). lines ++ drop k out) m))
+    (ap₂ (λ (k : ℕ) (l : List ℕ). replies (Ok k) l) m (wrote-between room w ∙ ap (λ (k : ℕ). lines ++ drop k out) m))
 
 module _ (input out : List ℕ) {new : List ℕ} {n : ℕ} (room : report_capacity ≤ length out) where
-  pub report-long : most_input < length input → Wrote out 0 (refused_line 9 0) new n → replies (reply.Done n) new ≡ report_call input out
+  pub report-long : most_input < length input → Wrote out 0 (refused_line 9 0) new n → replies (Ok n) new ≡ report_call input out
   report-long h w = written input out (refused_line 9 0) room (unfold report in (rw (lt-leb (length input) most_input h))) w
 
   module _ (few : length input ≤ most_input) where
-    pub report-unread : read_text input ≡ fail → Wrote out 0 (refused_line 9 0) new n → replies (reply.Done n) new ≡ report_call input out
+    pub report-unread : read_text input ≡ fail → Wrote out 0 (refused_line 9 0) new n → replies (Ok n) new ≡ report_call input out
     report-unread e w = written input out (refused_line 9 0) room (unfold report framed_lines in (rw (le-leb (length input) most_input few, e))) w
 
     -- the table's part of the input, and what follows it
     pub report-parts :
         {a e : ℕ} → TextStops input 0 a e → Wrote out 0 (asked_lines (batch_asked standard (part input a e) (part input e (length input)))) new n →
-        replies (reply.Done n) new ≡ report_call input out
+        replies (Ok n) new ≡ report_call input out
     report-parts {a} {e} t w =
         written input out (asked_lines (batch_asked standard (part input a e) (drop e input))) room
         (unfold report framed_lines in (rw (le-leb (length input) most_input few, t.is)))

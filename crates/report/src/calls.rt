@@ -15,16 +15,16 @@ ghost use Rattle.report.specs.code.ReportIndex.{NumbersOf, MergedAsked, opens, D
 
 use crate::lines::{write_finding, write_merged, write_refused};
 use batch::calls::batch;
-use dossier::dossiers::read_dossier;
-use dossier::questions::type_name;
-use event::read::{EventCounts, read_event};
+use event::ask::accept;
+use event::head::type_name;
+use event::read::EventCounts;
 use hashing::calls::hash;
 use ontology::tables::read_table;
 use opening::calls::open_dossier;
-use packed::read::{TextAt, read_text};
+use packed::read::read_text;
 use replies::capacities::{DOSSIER_CAPACITY, HASH_CAPACITY, REPORT_CAPACITY};
 use replies::limits::standard_limits;
-use replies::reply::{BatchReply, Opened, Reply};
+use replies::reply::{Opened, Refusal};
 
 // The longest input that is read, as specs/Report has it.
 const MOST_INPUT: usize = 65536;
@@ -43,12 +43,10 @@ fn report_merged(table: &[u8], event: &[u8], out: &mut [u8]) -> usize
         → Wrote out.old 0 (merged_lines t e) out.new result }
 {
     let mut digest = [0u8; HASH_CAPACITY];
-    hash(table, event, &mut digest);
     let mut properties = [0usize; 96];
     let mut sets = [0usize; 96];
-    let read = read_table(table, event::ask::type_name(event), &mut properties);
-    let e = read_event(event, EventCounts::Wide, &mut sets);
-    let t = read.index;
+    hash(table, event, &mut digest).unwrap();
+    let (t, e) = accept(table, event, EventCounts::Wide, &mut properties, &mut sets).unwrap();
     write_merged(table, t.count, &properties, event, e, &sets, &digest, out)
 }
 
@@ -59,9 +57,7 @@ fn properties_of(table: &[u8], dossier: &[u8], properties: &mut [usize])
         → dossier_asked standard types dossier.now ≡ accepted d
         → NumbersOf table.now d.type properties.new }
 {
-    let mut rows = [0usize; 768];
-    let d = read_dossier(dossier, standard_limits(), &mut rows);
-    read_table(table, type_name(dossier, d), properties);
+    read_table(table, type_name(dossier), properties);
 }
 
 // What a dossier opens as.
@@ -71,13 +67,13 @@ fn report_opened(table: &[u8], dossier: &[u8], opened: &mut [u8], out: &mut [u8]
         → Wrote out.old 0 (opened_lines d.type d.headed (opens d)) out.new result }
 {
     match open_dossier(standard_limits(), table, dossier, opened) {
-        Opened::Merged(n) => report_merged(table, &opened[..n], out),
-        Opened::Found(f) => {
+        Ok(Opened::Merged(n)) => report_merged(table, &opened[..n], out),
+        Ok(Opened::Found(f)) => {
             let mut properties = [0usize; 96];
             properties_of(table, dossier, &mut properties);
             write_finding(table, &properties, f, out)
         }
-        Opened::Refused(n) => write_refused(n, 0, out),
+        Err(refusal) => write_refused(refusal, 0, out),
     }
 }
 
@@ -99,23 +95,23 @@ fn report_batch(table: &[u8], events: &[u8], out: &mut [u8]) -> usize
         &mut b,
         &mut c,
     ) {
-        BatchReply::Done(n) => report_opened(table, &dossier[..n], &mut a, out),
-        BatchReply::Refused(n, position) => write_refused(n, position, out),
+        Ok(n) => report_opened(table, &dossier[..n], &mut a, out),
+        Err(b) => write_refused(b.refusal, b.position, out),
     }
 }
 
 // What the merge program prints for its input, written at the front of `out`.
-pub fn report(input: &[u8], out: &mut [u8]) -> Reply
+pub fn report(input: &[u8], out: &mut [u8]) -> Result<usize, Refusal>
     ensures { replies result out.new ≡ report_call input.now out.old }
 {
     if out.len() < REPORT_CAPACITY {
-        return Reply::Refused(1);
+        return Err(Refusal::SmallBuffer);
     }
     if MOST_INPUT < input.len() {
-        return Reply::Done(write_refused(9, 0, out));
+        return Ok(write_refused(Refusal::BadBatch, 0, out));
     }
-    let Some(TextAt { start, end }) = read_text(input, 0) else {
-        return Reply::Done(write_refused(9, 0, out));
+    let Some(table) = read_text(input, 0) else {
+        return Ok(write_refused(Refusal::BadBatch, 0, out));
     };
-    Reply::Done(report_batch(&input[start..end], &input[end..], out))
+    Ok(report_batch(&input[table.start..table.end], &input[table.end..], out))
 }

@@ -1,5 +1,5 @@
 // "An event version and a definition version count different things and are never compared."
-#[derive(Clone, Copy, PartialEq, Eq, PartialOrd, Ord)]
+#[derive(Clone, Copy, Debug, PartialEq, Eq, PartialOrd, Ord)]
 pub struct EventVersion(pub u64);
 
 #[derive(Clone, Copy)]

@@ -1,5 +1,5 @@
 -- Two dossiers that are combined, and two snapshots of one version, as the code has them.
-use Rattle.std.specs.Prelude.{ℕ, ◌+◌, ◌^◌, ◌≤◌, ◌<◌, ◌≡◌, Bool, true, false, ◌||◌, List, [], map, length, get_or}
+use Rattle.std.specs.Prelude.{ℕ, ◌+◌, ◌^◌, ◌≤◌, ◌<◌, ◌≡◌, Bool, true, false, ◌||◌, List, [], map, length, get_or, Result, Ok, Err}
 use Rattle.std.proofs.Math.Option.{some}
 use Rattle.std.proofs.Math.ListN.{get_elem?}
 use Rattle.model.specs.Rule.{Cell, holds, Snapshot, Dossier, join_snapshots}
@@ -9,6 +9,8 @@ use Rattle.packed.specs.Parse.{got}
 use Rattle.values.specs.ValueOrder.{is_ordered}
 use Rattle.values.specs.declared.versions.EventVersion.{EventVersion}
 use Rattle.replies.specs.Questions.{Asked, refused, accepted}
+use Rattle.replies.specs.Replies.{refusal_number}
+use Rattle.replies.specs.declared.reply.Refusal.{Refusal}
 use Rattle.ontology.specs.Table.{Property, EventType, Table, is_min, is_max, is_versioned, at_place}
 use Rattle.ontology.specs.TableLayout.{table_of}
 use Rattle.ontology.specs.code.TypeIndex.{PropertiesAre, TypeIs}
@@ -20,10 +22,17 @@ use Rattle.dossier.specs.DossierQuestions.{TypedDossier, dossier_asked, dossiers
 use Rattle.dossier.specs.code.DossierIndex.{snapshot_fits, CellsAre, DossierIs, RowsAre}
 use Rattle.dossier.specs.declared.dossiers.DossierIndex.{DossierIndex}
 
--- the number of the question that is answered no, or 0
-unfoldable pub NumberIs : Asked TypedDossier → ℕ → Type 0
-NumberIs (refused n) r = (r ≡ n) × (0 < r)
-NumberIs (accepted a) r = r ≡ 0
+-- a dossier that was accepted; its type is not kept
+pub record OtherAccepted (p : Asked TypedDossier) (s rows : List ℕ) (e : DossierIndex) : Type 0 where
+  pub what : TypedDossier
+  pub is : p ≡ accepted what
+  pub read : DossierIs s what.headed e
+  pub in_rows : RowsAre s what.headed.snapshots rows
+
+-- what asking it answers, where the questions come to p
+abbrev pub OtherAnswers : Asked TypedDossier → List ℕ → List ℕ → Result DossierIndex Refusal → Type 0
+OtherAnswers p s rows (Ok e) = OtherAccepted p s rows e
+OtherAnswers p s rows (Err q) = p ≡ refused (refusal_number q)
 
 -- questions 2 to 7 are answered yes, under some limits
 pub record Known (table a b : List ℕ) (t : TypeIndex) (ps : List ℕ) : Type 0 where

@@ -9,7 +9,11 @@ use Rattle.model.specs.Opening.{held, is_mark, cell_at}
 use Rattle.packed.specs.Parse.{Parse, fail, got, Layout, ◌>>=◌, found_if}
 use Rattle.packed.specs.Packed.{part}
 use Rattle.values.specs.declared.versions.EventVersion.{EventVersion}
-use Rattle.replies.specs.Questions.{Asked, refused, accepted}
+use Rattle.replies.specs.Questions as questions
+use Rattle.replies.specs.Questions.{Asked, refused, accepted, ask, ensure}
+use Rattle.replies.specs.Replies.{refusal_number}
+use Rattle.replies.specs.declared.reply.Refusal.{Refusal}
+use Rattle.ontology.specs.TableLayout.{table_of}
 use Rattle.ontology.specs.Table.{Property, EventType, is_min, is_max, is_match, is_versioned}
 use Rattle.ontology.specs.code.TypeIndex.{TypeIs}
 use Rattle.ontology.specs.declared.types.TypeIndex.{TypeIndex}
@@ -22,12 +26,12 @@ use Rattle.dossier.specs.DossierHead.{read_dossier_head, dossier_head_bytes}
 use Rattle.dossier.specs.DossierLayout.{Headed, dossier_of}
 use Rattle.dossier.specs.DossierBody.{apart, cells_of, are_small, read_snapshot, differ_bit, snapshot_bytes}
 use Rattle.dossier.specs.DossierQuestions.{each_cell, is_vacant, is_present, is_lone_if_single}
-use Rattle.dossier.specs.DossierQuestions.{is_lone_if_extreme, is_unmarked_match, holds_version, TypedDossier}
+use Rattle.dossier.specs.DossierQuestions.{is_lone_if_extreme, is_unmarked_match, holds_version, TypedDossier, dossier_asked}
 use Rattle.dossier.specs.declared.shape.ShapeMasks.{ShapeMasks}
 use Rattle.dossier.specs.declared.snapshots.SnapshotNumbers.{SnapshotNumbers}
 use Rattle.dossier.specs.declared.dossiers.SnapshotsRead.{SnapshotsRead}
 use Rattle.dossier.specs.declared.dossiers.DossierIndex.{DossierIndex}
-use Rattle.std.specs.Prelude.{Some, None}
+use Rattle.std.specs.Prelude.{Some, None, Result, Ok, Err}
 use Rattle.std.specs.Prelude as std
 use Rattle.dossier.specs.declared.snapshots.NumbersAt.{NumbersAt}
 
@@ -153,10 +157,16 @@ pub record DossierIs (s : List ℕ) (h : Headed) (i : DossierIndex) : Type 0 whe
 pub record HasRows (limits : Limits) (s : List ℕ) (n : ℕ) : Type 0 where
   pub enough : (h : Headed) → dossier_of limits s ≡ some h → 96 * length h.snapshots ≤ n
 
+pub record DossierStands (p : Option Headed) (s rows : List ℕ) (i : DossierIndex) : Type 0 where
+  pub what : Headed
+  pub is : p ≡ some what
+  pub stands : DossierIs s what i
+  pub in_rows : RowsAre s what.snapshots rows
+
 -- what the reader of a dossier answers, and leaves in the rows
-unfoldable pub DossierReads : Option Headed → List ℕ → List ℕ → DossierIndex → Type 0
-DossierReads none s rows i = i.ok ≡ false
-DossierReads (some h) s rows i = (i.ok ≡ true) × DossierIs s h i × RowsAre s h.snapshots rows
+abbrev pub DossierReads : Option Headed → List ℕ → List ℕ → std.Option DossierIndex → Type 0
+DossierReads p s rows (Some i) = DossierStands p s rows i
+DossierReads p s rows None = p ≡ none
 
 -- ---- question 5 of a snapshot, place by place
 
@@ -183,11 +193,9 @@ snapshot_fits limits t s =
     && leb (match_count t.properties (map held s.cells)) 32
     && version_fits limits t s
 
--- the number of the first of questions 5 and 6 that is answered no, or 0
-unfoldable pub shape_number : Bool → Bool → ℕ
-shape_number false fits = 5
-shape_number true false = 6
-shape_number true true = 0
+-- questions 5 and 6
+abbrev pub shape_asked : Bool → Bool → Asked (Unit {0})
+shape_asked shape fits = questions.◌>>◌ (ensure 5 shape) (ensure 6 fits)
 
 -- ---- question 5 of a snapshot, by bit masks
 
@@ -216,9 +224,20 @@ masks_fit m present several differ =
     leb differ m.all && eqb (bit_and (bit_or present differ) m.mandatory) m.mandatory
     && eqb (bit_and several m.lone) 0 && eqb (bit_and differ m.unmarked) 0
 
--- ---- questions 3 to 6
+-- ---- questions 2 to 6
 
--- what is answered where the questions come to a number or to a dossier, whose type is then the one that was asked by
-unfoldable pub DossierAnswers : Asked TypedDossier → List ℕ → TypeIndex → List ℕ → ℕ → Type 0
-DossierAnswers (refused n) table t ps r = r ≡ n
-DossierAnswers (accepted a) table t ps r = (r ≡ 0) × TypeIs table a.type t ps
+abbrev pub dossier_questions : Limits → List ℕ → List ℕ → Asked TypedDossier
+dossier_questions limits table s = questions.◌>>=◌ (ask 2 (table_of table)) (λ ts. dossier_asked limits ts s)
+
+-- a dossier that was accepted, with its type; ps are the numbers of the type's properties, rows those of the dossier's sets
+pub record DossierAccepted (p : Asked TypedDossier) (table s ps rows : List ℕ) (t : TypeIndex) (d : DossierIndex) : Type 0 where
+  pub what : TypedDossier
+  pub is : p ≡ accepted what
+  pub typed : TypeIs table what.type t ps
+  pub read : DossierIs s what.headed d
+  pub in_rows : RowsAre s what.headed.snapshots rows
+
+-- what asking answers, where the questions come to p
+abbrev pub DossierAnswers : Asked TypedDossier → List ℕ → List ℕ → List ℕ → List ℕ → Result (TypeIndex × DossierIndex) Refusal → Type 0
+DossierAnswers p table s ps rows (Ok (t, d)) = DossierAccepted p table s ps rows t d
+DossierAnswers p table s ps rows (Err q) = p ≡ refused (refusal_number q)

@@ -9,7 +9,9 @@ use Rattle.packed.specs.Parse.{Parse, fail, got, All}
 use Rattle.packed.specs.Packed.{number, text, part}
 use Rattle.values.specs.Spaces.{is_kind}
 use Rattle.replies.specs.Questions as questions
-use Rattle.replies.specs.Questions.{Asked, refused, accepted, ask}
+use Rattle.replies.specs.Questions.{Asked, refused, accepted, ask, ensure}
+use Rattle.replies.specs.Replies.{refusal_number}
+use Rattle.replies.specs.declared.reply.Refusal.{Refusal}
 use Rattle.ontology.specs.Table.{Property, EventType}
 use Rattle.ontology.specs.TableLayout.{table_of}
 use Rattle.ontology.specs.code.TypeIndex.{TypeIs}
@@ -20,11 +22,11 @@ use Rattle.ontology.specs.declared.types.TypeIndex.{TypeIndex}
 use Rattle.event.specs.declared.sets.SetAt.{SetAt}
 use Rattle.event.specs.declared.head.HeadAt.{HeadAt}
 use Rattle.event.specs.declared.read.EventIndex.{EventIndex}
-use Rattle.event.specs.EventQuestions.{Typed, event_asked}
-use Rattle.event.specs.Value.{bytes_before}
+use Rattle.event.specs.EventQuestions.{Typed, event_asked, event_shape, values_fit}
+use Rattle.event.specs.Value.{bytes_before, value_call}
 use Rattle.event.specs.declared.read.EventCounts.{EventCounts}
 use Rattle.event.specs.declared.read.EventCounts.TheVariants as taken
-use Rattle.std.specs.Prelude.{Some, None}
+use Rattle.std.specs.Prelude.{Some, None, Result, Ok, Err}
 use Rattle.packed.specs.declared.read.TextAt.{TextAt}
 use Rattle.std.specs.Prelude as std
 use Rattle.event.specs.declared.sets.SetsRead.{SetsRead}
@@ -149,14 +151,15 @@ pub record EventIs (s : List ℕ) (e : Event) (x : EventIndex) (ats : List ℕ) 
   pub objects : x.objects ≡ object_count e.sets
   pub sets : SetsAre s e.sets ats
 
--- what the reader of an event answers, and leaves in the numbers ats
-unfoldable pub EventReads : Option Event → List ℕ → List ℕ → EventIndex → Type 0
-EventReads none s ats x = x.ok ≡ false
-EventReads (some e) s ats x = (x.ok ≡ true) × EventIs s e x ats
+pub record EventStands (p : Option Event) (s ats : List ℕ) (x : EventIndex) : Type 0 where
+  pub what : Event
+  pub is : p ≡ some what
+  pub stands : EventIs s what x ats
 
--- the counts that a reader takes
-abbrev pub counts : ℕ → ℕ → Counts
-counts parents objects = record { parents = parents; objects = objects }
+-- what the reader of an event answers, and leaves in the numbers ats
+abbrev pub EventReads : Option Event → List ℕ → List ℕ → std.Option EventIndex → Type 0
+EventReads p s ats (Some x) = EventStands p s ats x
+EventReads p s ats None = p ≡ none
 
 -- an event's counts, or the wider ones
 abbrev pub counts_of : EventCounts → Counts
@@ -199,6 +202,17 @@ abbrev pub ValueFound : List ℕ → Event → ℕ → ℕ → std.Option TextAt
 ValueFound s e place index (Some x) = ValueStands s e place index x.start x.end
 ValueFound s e place index None = get_elem? (set_at e place) index ≡ none
 
+-- a value's bytes stand where x says, and that is what the value call gives
+pub record PartTold (table event : List ℕ) (place index : ℕ) (x : TextAt) : Type 0 where
+  pub is : value_call table event place index ≡ record { bytes = part event x.start x.end; start = x.start }
+  pub order : x.start ≤ x.end
+  pub within : x.end ≤ length event
+
+-- what is answered of a place and an index of an event under a table
+abbrev pub ValueTold : List ℕ → List ℕ → ℕ → ℕ → std.Option TextAt → Type 0
+ValueTold table event place index (Some x) = PartTold table event place index x
+ValueTold table event place index None = value_call table event place index ≡ record { bytes = []; start = 0 }
+
 -- ---- the questions
 
 -- each property's kind has its parameters in their ranges, as in every table that is accepted
@@ -209,16 +223,18 @@ KindsAre t = (i : ℕ) (q : Property) → get_elem? t.properties i ≡ some q �
 abbrev pub event_questions : Counts → List ℕ → List ℕ → Asked Typed
 event_questions counts table event = questions.◌>>=◌ (ask 2 (table_of table)) (λ ts. event_asked counts ts event)
 
--- an event that was asked, as the code has it: the number of the first question that is answered no, or 0; its type; and the event
-pub record EventAsked : Type 0 where
-  pub number : ℕ
-  pub type : TypeIndex
-  pub event : EventIndex
+-- questions 5 and 6
+abbrev pub places_asked : EventType → Event → Asked (Unit {0})
+places_asked t e = questions.◌>>◌ (ensure 5 (event_shape t e)) (ensure 6 (values_fit t e.sets))
 
-abbrev pub asked : ℕ → TypeIndex → EventIndex → EventAsked
-asked n t e = record { number = n; type = t; event = e }
+-- an event that was accepted, with its type; ps are the numbers of the type's properties, ats those of the event's sets
+pub record EventAccepted (p : Asked Typed) (table event ps ats : List ℕ) (t : TypeIndex) (e : EventIndex) : Type 0 where
+  pub what : Typed
+  pub is : p ≡ accepted what
+  pub typed : TypeIs table what.type t ps
+  pub read : EventIs event what.event e ats
 
--- what asking answers, where the questions come to a; ps are the numbers of the type's properties, ats those of the event's sets
-unfoldable pub EventAnswers : Asked Typed → List ℕ → List ℕ → List ℕ → List ℕ → EventAsked → Type 0
-EventAnswers (refused n) table event ps ats r = r.number ≡ n
-EventAnswers (accepted a) table event ps ats r = (r.number ≡ 0) × TypeIs table a.type r.type ps × EventIs event a.event r.event ats
+-- what asking answers, where the questions come to p
+abbrev pub EventAnswers : Asked Typed → List ℕ → List ℕ → List ℕ → List ℕ → Result (TypeIndex × EventIndex) Refusal → Type 0
+EventAnswers p table event ps ats (Ok (t, e)) = EventAccepted p table event ps ats t e
+EventAnswers p table event ps ats (Err q) = p ≡ refused (refusal_number q)

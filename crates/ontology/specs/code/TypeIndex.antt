@@ -16,7 +16,6 @@ use Rattle.ontology.specs.Table.{names_rise, strategy_fits, all_fit, can_be_mark
 use Rattle.ontology.specs.TableLayout.{read_property, read_type}
 use Rattle.ontology.specs.declared.properties.PropertyAt.{PropertyAt}
 use Rattle.ontology.specs.declared.types.TypeIndex.{TypeIndex}
-use Rattle.ontology.specs.declared.tables.TableRead.{TableRead}
 use Rattle.std.specs.Prelude.{Some, None}
 use Rattle.std.specs.Prelude as std
 use Rattle.ontology.specs.declared.kinds.KindAt.{KindAt}
@@ -207,12 +206,23 @@ TypeReads p s at keep ps None = p ≡ fail
 
 -- ---- tables
 
--- the type of the name that was asked for, where there is one
-unfoldable pub TypeSays : Option EventType → List ℕ → List ℕ → TableRead → Type 0
-TypeSays none s ps r = r.found ≡ false
-TypeSays (some t) s ps r = (r.found ≡ true) × TypeIs s t r.index ps
+-- The type t, as the index has it, where there is one
+pub record TypeSaid (p : Option EventType) (s ps : List ℕ) (x : TypeIndex) : Type 0 where
+  pub what : EventType
+  pub is : p ≡ some what
+  pub typed : TypeIs s what x ps
+
+-- what is kept of the type of the name that was asked for
+abbrev pub TypeSays : Option EventType → List ℕ → List ℕ → std.Option TypeIndex → Type 0
+TypeSays p s ps (Some x) = TypeSaid p s ps x
+TypeSays p s ps None = p ≡ none
+
+pub record TableSaid (p : Option Table) (s : List ℕ) (name : Text) (ps : List ℕ) (r : std.Option TypeIndex) : Type 0 where
+  pub what : Table
+  pub is : p ≡ some what
+  pub says : TypeSays (type_named name what) s ps r
 
 -- what the reader of a table answers that is asked for the type of a name, and leaves in the numbers ps
-unfoldable pub TableSays : Option Table → List ℕ → Text → List ℕ → TableRead → Type 0
-TableSays none s name ps r = r.ok ≡ false
-TableSays (some ts) s name ps r = (r.ok ≡ true) × TypeSays (type_named name ts) s ps r
+abbrev pub TableSays : Option Table → List ℕ → Text → List ℕ → std.Option (std.Option TypeIndex) → Type 0
+TableSays p s name ps (Some r) = TableSaid p s name ps r
+TableSays p s name ps None = p ≡ none

@@ -6,4 +6,4 @@ use Rattle.batch.proofs.FrameLaws.{Passed}
 use Rattle.batch.proofs.frame.read_texts.Given as goal
 
 abbrev pub invariant-loop-i : goal.invariant-loop-i
-invariant-loop-i l = Passed (times read_text l.count (drop l.at l.batch)) l.batch l.x.starts l.x.ends l.count l.next l.i
+invariant-loop-i l = Passed (times read_text l.count (drop l.at l.batch)) l.batch l.events l.count l.next l.i

@@ -2,31 +2,39 @@
 -- (`ReadFor`). Then question 8 is asked, and the dossier with the event is written, as combining both would write it.
 use Rattle.std.proofs.Common.{rules, arith}
 use Rattle.replies.specs.ChosenLimits.{limits_of}
-use Rattle.combining.proofs.CheckLaws.{known-checked, checkable}
+use Rattle.combining.proofs.CheckLaws.{known-some, known-checked, checkable}
 use Rattle.combining.proofs.CombineLaws.{combine-full, combine-done}
-use Rattle.combining.proofs.AddLaws.{has-head, measured-in, body-begins, ReadFor, version-known, is-adding, permitted, added-inside, added-there}
+use Rattle.combining.proofs.AddLaws.{has-head, head-stops, measured-in, body-begins, ReadFor, version-known, is-adding, permitted, added-inside, added-there}
 use Rattle.combining.proofs.add.add_event.Goals as goal
 use Rattle.combining.proofs.add.add_event.Goals.{After-place_of-p}
 
 read-for :
     (c : After-place_of-p) →
-    ReadFor (limits_of c.args.limits) c.args.sofar.now c.args.measures.now c.args.event.now c.read_event-e.result c.read_event-e.new.sets c.in-Some.x
-    c.in-Some.after_head c.place_of-p.result c.args.t c.version_of-version.result
+    ReadFor (limits_of c.args.limits) c.args.sofar.now c.args.measures.now c.args.event.now c.unwrap-e.result c.read_event.new.sets
+    c.unwrap-after_head.result.0 c.unwrap-after_head.result.1 c.place_of-p.result c.args.t c.version_of-version.result
 read-for c = record {
-  reads = c.read_event-e.ensures;
+  found = c.read_event.result;
+  reads = c.read_event.ensures;
+  there = c.unwrap-e.ensures;
   versioned = c.version_of-version.ensures;
-  stops = c.in-Some.ensures;
+  stops = head-stops c.read_dossier_head.ensures c.unwrap-after_head.ensures;
   placed = c.place_of-p.ensures;
 }
 
-pub version_of-version-requires : goal.version_of-version-requires
-version_of-version-requires c = (search rules, search (checkable, known-checked c.requires.addable_under.0.added.new))
+pub unwrap-e-requires : goal.unwrap-e-requires
+unwrap-e-requires c = known-some c.requires.addable_under.0.added.new _ _ c.read_event.ensures
 
-pub returns-in_default-clause-out_after : goal.returns-in_default-clause-out_after
-returns-in_default-clause-out_after c = λ a. absurd (has-head a.added a.under c.in_default.ensures)
+pub version_of-version-requires : goal.version_of-version-requires
+version_of-version-requires c =
+    (search rules, checkable (known-checked c.requires.addable_under.0.added.new _ _ c.read_event.ensures c.unwrap-e.ensures))
+
+pub unwrap-after_head-requires : goal.unwrap-after_head-requires
+unwrap-after_head-requires c = let a = c.requires.addable_under.0 in has-head a.added a.under _ c.read_dossier_head.ensures
 
 pub overflow_add-body : goal.overflow_add-body
-overflow_add-body c = let a = c.requires.addable_under.0 in omega (arith, (body-begins a.added a.under c.in-Some.ensures).0)
+overflow_add-body c =
+    let a = c.requires.addable_under.0 in
+    omega (arith, (body-begins a.added a.under (head-stops c.read_dossier_head.ensures c.unwrap-after_head.ensures)).0)
 
 pub place_of-p-requires : goal.place_of-p-requires
 place_of-p-requires c = (measured-in c.requires.addable_under.0.added, c.requires.addable_under.2)

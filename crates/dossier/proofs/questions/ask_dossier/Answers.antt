@@ -1,19 +1,32 @@
-use Rattle.std.proofs.Common.{rules}
-use borrow.Author.Tests.{not-true, not-false}
-use Rattle.dossier.proofs.AnswerLaws.{reads-few, answer-layout, answer-type, answer-rest}
+-- The masks are those of the type, and so serve for each snapshot. A snapshot's 5 is the answer, and a 6 stays while others follow.
+use Rattle.std.proofs.Common.{rules, sym}
+use denote.Enum.Bare.{same_true, same_false}
+use Rattle.replies.specs.contracts.reply.Refusal.{the_type}
+use Rattle.dossier.proofs.AskLaws.{not-lone, is-lone, asked-here, asked-five, asked-fine, asked-six, asked-end}
 use Rattle.dossier.proofs.questions.ask_dossier.Goals as goal
+use Rattle.dossier.proofs.questions.ask_dossier.Goals.{in-Err+else-eq, in_default}
 
-pub returns-then-not-d : goal.returns-then-not-d
-returns-then-not-d c table ts e says = answer-layout _ table ts _ _ _ c.requires.dossier_reads.0 (not-true _ c.if-not-d.true) _ _
+pub returns-then-not-is_lone : goal.returns-then-not-is_lone
+returns-then-not-is_lone c = not-lone _ _ _ _ _ _ c.is_lone.ensures c.if-not-is_lone.true
 
-pub returns-then-not-read : goal.returns-then-not-read
-returns-then-not-read c table ts e says =
-    answer-type _ table ts _ _ _ c.requires.dossier_reads.0 (not-false _ c.if-not-d.false) _ _ says (not-true _ c.if-not-read.true) _
+pub loop-j-init : goal.loop-j-init
+loop-j-init c = is-lone _ _ _ _ _ _ c.is_lone.ensures c.if-not-is_lone.false
 
-pub ask_snapshots-requires : goal.ask_snapshots-requires
-ask_snapshots-requires c = search (rules, reads-few, not-false)
+pub returns-then-eq : goal.returns-then-eq
+returns-then-eq c =
+    asked-five c.loop-j.invariant c.loop-j-test.true (asked-here _ c.loop-j-test.true c.masks_of-m.ensures c.in-Err.ensures)
+    (same_true the_type (search rules) _ _ (sym c.if-eq.ensures))
+
+pub loop-j-preserved : goal.loop-j-preserved
+loop-j-preserved c = elim c.match-ask_snapshot.branch [
+  | in-Err+else-eq v ↦
+      rw v.answer-is
+      (asked-six c.loop-j.invariant c.loop-j-test.true (asked-here _ c.loop-j-test.true c.masks_of-m.ensures v.in-Err.ensures)
+      (same_false the_type _ _ (sym v.if-eq.ensures)))
+  | in_default v ↦
+      rw v.answer-is
+      (asked-fine c.loop-j.invariant c.loop-j-test.true (asked-here _ c.loop-j-test.true c.masks_of-m.ensures v.in_default.ensures))
+]
 
 pub returns : goal.returns
-returns c table ts e says =
-    answer-rest _ table ts _ _ _ c.requires.dossier_reads.0 (not-false _ c.if-not-d.false) _ _ says e (not-false _ c.if-not-read.false) _
-    c.ask_snapshots.ensures
+returns c = asked-end c.loop-j.invariant c.loop-j-test.false

@@ -1,0 +1,5 @@
+use Rattle.interface.proofs.PackingLaws.{refusal_is}
+use Rattle.interface.proofs.pack.pack_refusal.Goals as goal
+
+pub returns : goal.returns
+returns c = refusal_is _ c.number.ensures
