@@ -15,7 +15,7 @@ ghost use Rattle.combining.specs.code.CombineIndex.{OtherAnswers, CombinableUnde
 use crate::limits::limits_fit;
 use crate::write::write_combined;
 use dossier::dossiers::{DossierIndex, read_dossier, snapshot_count};
-use dossier::questions::{accept, ask_dossier, dossiers_agree};
+use dossier::questions::{accept, ask_snapshots, dossiers_agree};
 use event::head::type_name;
 use ontology::tables::read_table;
 use ontology::types::TypeIndex;
@@ -68,13 +68,13 @@ fn ask_other(
     let e = read_dossier(s, limits, rows).ok_or(Refusal::BadInput)?;
     let other = type_name(s);
     if same(name, other) {
-        ask_dossier(s, limits, e, rows, t, properties)?;
+        ask_snapshots(s, limits, e, rows, t, properties)?;
         return Ok(e);
     }
     let mut others = [0usize; 96];
     let found = read_table(table, other, &mut others).flatten();
     let u = found.ok_or(Refusal::UnknownType)?;
-    ask_dossier(s, limits, e, rows, u, &others)?;
+    ask_snapshots(s, limits, e, rows, u, &others)?;
     Ok(e)
 }
 

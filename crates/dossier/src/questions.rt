@@ -64,7 +64,7 @@ fn is_lone(mark: usize, count: usize) -> bool
 
 // Questions 5 and 6 of the dossier s, whose index is d, and whose type is t. Question 6 is asked of a snapshot only where 5 is answered yes of it, but is
 // answered after 5 of all.
-pub fn ask_dossier(
+pub fn ask_snapshots(
     s: &[u8],
     limits: Limits,
     d: DossierIndex,
@@ -125,7 +125,7 @@ pub fn accept(
     let found = read_table(table, type_name(s), properties).ok_or(Refusal::BadTable)?;
     let d = read_dossier(s, limits, rows).ok_or(Refusal::BadInput)?;
     let t = found.ok_or(Refusal::UnknownType)?;
-    ask_dossier(s, limits, d, rows, t, properties)?;
+    ask_snapshots(s, limits, d, rows, t, properties)?;
     Ok((t, d))
 }
 

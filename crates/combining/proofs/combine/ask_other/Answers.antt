@@ -23,16 +23,16 @@ returns-in_err-e-clause-answers c = λ ts k.
     rw (none-refused told.value told.ok_part c.from_residual.ensures.1)
     (other-layout _ _ _ _ c.read_dossier.ensures.dossier_reads ts k told.ok_part)
 
-pub returns-in_err-ask_dossier-clause-answers : goal.returns-in_err-ask_dossier-clause-answers
-returns-in_err-ask_dossier-clause-answers c = λ ts k.
-    rw (passed-on c.from_residual-in_err-ask_dossier.ensures.1)
+pub returns-in_err-ask_snapshots-clause-answers : goal.returns-in_err-ask_snapshots-clause-answers
+returns-in_err-ask_snapshots-clause-answers c = λ ts k.
+    rw (passed-on c.from_residual-in_err-ask_snapshots.ensures.1)
     (other-refused _ _ _ _ c.read_dossier.ensures.dossier_reads ts k (dossier-name _ _ c.type_name-other.ensures _) _ (Some (Some c.args.t))
-    (read-before (goal.at.returns-in_err-ask_dossier-clause-answers c).Then-same) c.in_ok-e.ensures.ok_part refl c.in_err-ask_dossier.ensures)
+    (read-before (goal.at.returns-in_err-ask_snapshots-clause-answers c).Then-same) c.in_ok-e.ensures.ok_part refl c.in_err-ask_snapshots.ensures)
 
 pub returns-then-same-clause-answers : goal.returns-then-same-clause-answers
 returns-then-same-clause-answers c = λ ts k.
     other-accepted _ _ _ _ c.read_dossier.ensures.dossier_reads ts k (dossier-name _ _ c.type_name-other.ensures _) _ (Some (Some c.args.t))
-    (read-before (goal.at.returns-then-same-clause-answers c).Then-same) c.in_ok-e.ensures.ok_part refl c.in_ok-ask_dossier.ensures
+    (read-before (goal.at.returns-then-same-clause-answers c).Then-same) c.in_ok-e.ensures.ok_part refl c.in_ok-ask_snapshots.ensures
 
 pub returns-in_err-u-clause-answers : goal.returns-in_err-u-clause-answers
 returns-in_err-u-clause-answers c = λ ts k.
@@ -41,13 +41,13 @@ returns-in_err-u-clause-answers c = λ ts k.
     (other-type _ _ _ _ c.read_dossier.ensures.dossier_reads ts k (dossier-name _ _ c.type_name-other.ensures _) _ _
     c.read_table.ensures c.in_ok-e.ensures.ok_part (rw c.flatten-found.ensures at told.ok_part))
 
-pub returns-in_err-ask_dossier-2-clause-answers : goal.returns-in_err-ask_dossier-2-clause-answers
-returns-in_err-ask_dossier-2-clause-answers c = λ ts k.
-    rw (passed-on c.from_residual-in_err-ask_dossier-2.ensures.1)
+pub returns-in_err-ask_snapshots-2-clause-answers : goal.returns-in_err-ask_snapshots-2-clause-answers
+returns-in_err-ask_snapshots-2-clause-answers c = λ ts k.
+    rw (passed-on c.from_residual-in_err-ask_snapshots-2.ensures.1)
     (other-refused _ _ _ _ c.read_dossier.ensures.dossier_reads ts k (dossier-name _ _ c.type_name-other.ensures _) _ _
-    c.read_table.ensures c.in_ok-e.ensures.ok_part (rw c.flatten-found.ensures at c.in_ok-u.ensures.ok_part) c.in_err-ask_dossier-2.ensures)
+    c.read_table.ensures c.in_ok-e.ensures.ok_part (rw c.flatten-found.ensures at c.in_ok-u.ensures.ok_part) c.in_err-ask_snapshots-2.ensures)
 
 pub returns-clause-answers : goal.returns-clause-answers
 returns-clause-answers c = λ ts k.
     other-accepted _ _ _ _ c.read_dossier.ensures.dossier_reads ts k (dossier-name _ _ c.type_name-other.ensures _) _ _
-    c.read_table.ensures c.in_ok-e.ensures.ok_part (rw c.flatten-found.ensures at c.in_ok-u.ensures.ok_part) c.in_ok-ask_dossier-2.ensures
+    c.read_table.ensures c.in_ok-e.ensures.ok_part (rw c.flatten-found.ensures at c.in_ok-u.ensures.ok_part) c.in_ok-ask_snapshots-2.ensures

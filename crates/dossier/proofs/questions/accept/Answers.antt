@@ -18,13 +18,13 @@ returns-in_err-t-clause-answers c =
     (questions-type _ _ (table_got _ _ _ _ c.read_table.ensures c.in_ok-found.ensures.ok_part) _ c.read_dossier.ensures.dossier_reads
     (dossier-name _ _ c.type_name.ensures _) c.in_ok-d.ensures.ok_part told.ok_part)
 
-pub returns-in_err-ask_dossier-clause-answers : goal.returns-in_err-ask_dossier-clause-answers
-returns-in_err-ask_dossier-clause-answers c =
-    rw (passed-on c.from_residual-in_err-ask_dossier.ensures.1)
+pub returns-in_err-ask_snapshots-clause-answers : goal.returns-in_err-ask_snapshots-clause-answers
+returns-in_err-ask_snapshots-clause-answers c =
+    rw (passed-on c.from_residual-in_err-ask_snapshots.ensures.1)
     (questions-refused _ _ (table_got _ _ _ _ c.read_table.ensures c.in_ok-found.ensures.ok_part) _ c.read_dossier.ensures.dossier_reads
-    (dossier-name _ _ c.type_name.ensures _) c.in_ok-d.ensures.ok_part c.in_ok-t.ensures.ok_part c.in_err-ask_dossier.ensures)
+    (dossier-name _ _ c.type_name.ensures _) c.in_ok-d.ensures.ok_part c.in_ok-t.ensures.ok_part c.in_err-ask_snapshots.ensures)
 
 pub returns-clause-answers : goal.returns-clause-answers
 returns-clause-answers c =
     questions-accepted _ _ (table_got _ _ _ _ c.read_table.ensures c.in_ok-found.ensures.ok_part) _ c.read_dossier.ensures.dossier_reads
-    (dossier-name _ _ c.type_name.ensures _) c.in_ok-d.ensures.ok_part c.in_ok-t.ensures.ok_part c.in_ok-ask_dossier.ensures
+    (dossier-name _ _ c.type_name.ensures _) c.in_ok-d.ensures.ok_part c.in_ok-t.ensures.ok_part c.in_ok-ask_snapshots.ensures

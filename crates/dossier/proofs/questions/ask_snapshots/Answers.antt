@@ -3,8 +3,8 @@ use Rattle.std.proofs.Common.{rules, sym}
 use denote.Enum.Bare.{same_true, same_false}
 use Rattle.replies.specs.contracts.reply.Refusal.{the_type}
 use Rattle.dossier.proofs.AskLaws.{not-lone, is-lone, asked-here, asked-five, asked-fine, asked-six, asked-end}
-use Rattle.dossier.proofs.questions.ask_dossier.Goals as goal
-use Rattle.dossier.proofs.questions.ask_dossier.Goals.{in-Err+else-eq, in_default}
+use Rattle.dossier.proofs.questions.ask_snapshots.Goals as goal
+use Rattle.dossier.proofs.questions.ask_snapshots.Goals.{in-Err+else-eq, in_default}
 
 pub returns-then-not-is_lone : goal.returns-then-not-is_lone
 returns-then-not-is_lone c = not-lone _ _ _ _ _ _ c.is_lone.ensures c.if-not-is_lone.true
