@@ -3,10 +3,10 @@ use mathlib.Core.Path.{◌≡◌, refl, sym, ap, ◌∙◌, subst}
 use mathlib.Core.Bool.{Bool, true, false, cond}
 use mathlib.Core.Logic.{⊎_elim}
 use mathlib.Core.List.{List, [], ◌∷◌, ◌++◌, flatten}
-use Prim.Native.Nat.{ℕ, zero, suc, ◌+◌, ◌-◌, ◌≤◌, ◌<◌}
+use Prim.Native.Nat.{ℕ, zero, suc, ◌+◌, ◌-◌, ◌*◌, ◌≤◌, ◌<◌}
 use native.Mathlib.Omega.{arith}
-use lib.ListN.{length, take, drop, get_or, length-append, length-drop}
-use lib.Seq.{get_or-take, get_or-drop, length-take-le}
+use lib.ListN.{length, take, drop, get_or, set, length-append, length-drop}
+use lib.Seq.{get_or-set_same, get_or-set_other, get_or-take, get_or-drop, length-take-le}
 use Rattle.model.specs.Rule.{Snapshot}
 use Rattle.packed.proofs.LayoutLaws.{lt-or-ge}
 use Rattle.dossier.specs.DossierBody.{snapshot_bytes}
@@ -87,6 +87,53 @@ module _ {m : List ℕ} {v before k : ℕ} (p : PassedIn m v before k) where
 
         at_last : (j : ℕ) → j < k + 1 → k ≤ j → k ≡ j
         at_last j g b = omega arith
+
+-- ---- room for one more
+
+-- the count is put
+module _ (m : List ℕ) (n : ℕ) where
+  pub count-here : length m ≡ 17 → count_in (set m 0 n) ≡ n
+  count-here long = get_or-set_same m 0 n 0 (omega arith)
+
+  pub count-others : (j : ℕ) → measure_in (set m 0 n) j ≡ measure_in m j
+  count-others j =
+      let v = get_or-set_other m 0 (2 * j + 1) n 0 (λ e. omega (arith, e)) in
+      let z = get_or-set_other m 0 (2 * j + 2) n 0 (λ e. omega (arith, e)) in
+      λ i. record { version = record { 0 = v i }; size = z i }
+
+-- those from k on are moved up by one
+pub record Moved (old : List ℕ) (k : ℕ) (new : List ℕ) : Type 0 where
+  pub long : length new ≡ 17
+  pub lower : (j : ℕ) → j < k → measure_in new j ≡ measure_in old j
+  pub higher : (j : ℕ) → k ≤ j → j < count_in old → measure_in new (suc j) ≡ measure_in old j
+
+pub none-moved : (old : List ℕ) → length old ≡ 17 → Moved old (count_in old) old
+none-moved old long = record { long = long; lower = λ j l. refl; higher = λ j l h. absurd (omega arith) }
+
+-- `next` has at j + 1 what `new` has at j
+pub moved-next :
+    (old new next : List ℕ) (j : ℕ) → Moved old (j + 1) new → length next ≡ length new →
+    measure_in next (j + 1) ≡ measure_in new j → ((i : ℕ) → (i ≡ j + 1 → ⊥) → measure_in next i ≡ measure_in new i) → Moved old j next
+moved-next old new next j w long here others = record {
+  long = long ∙ w.long;
+  lower = λ i l. others i (λ e. omega (arith, e)) ∙ w.lower i (omega arith);
+  higher = λ i l h. ⊎_elim
+      (λ (b : i < j + 1). moved_here i (omega arith))
+      (λ (b : j + 1 ≤ i). others (suc i) (λ e. omega (arith, e)) ∙ w.higher i b h)
+      (lt-or-ge i (j + 1));
+}
+  where
+    moved_here : (i : ℕ) → i ≡ j → measure_in next (suc i) ≡ measure_in old i
+    moved_here i e =
+        let at : suc i ≡ j + 1 = omega arith in
+        ap (measure_in next) at ∙ here ∙ w.lower j (omega arith) ∙ ap (measure_in old) (sym e)
+
+pub moved_up : (old new : List ℕ) (index k : ℕ) → index ≤ k → k ≤ index → Moved old k new → MovedUp old index (set new 0 (count_in old + 1))
+moved_up old new index k low high w = record {
+  count = count-here new (count_in old + 1) w.long;
+  lower = λ j l. count-others new (count_in old + 1) j ∙ w.lower j (omega arith);
+  higher = λ j l h. count-others new (count_in old + 1) (suc j) ∙ w.higher j (omega arith) h;
+}
 
 -- ---- a snapshot at its place
 

@@ -89,13 +89,17 @@ pub fn place_of(s: &[u8], measures: &[usize], version: EventVersion) -> Place
     }
 }
 
-// Makes room for the measures of one more snapshot: those from `index` on move up by one.
+// Makes room for the measures of one more snapshot: those from `index` on move up by one, the last first. `copy_within` would call memmove, which who links the
+// archive for C need not have.
 fn move_up(measures: &mut [usize], index: usize)
     requires { (length measures.old ≡ 17) × (index ≤ count_in measures.old) × (count_in measures.old < 8) }
     ensures { MovedUp measures.old index measures.new }
 {
     let count = measures[0];
-    measures.copy_within(2 * index + 1..2 * count + 1, 2 * index + 3);
+    for k in (index..count).rev() {
+        let x = measure_at(measures, k);
+        put_measure(measures, k + 1, x);
+    }
     measures[0] = count + 1;
 }
 
