@@ -18,7 +18,7 @@ use Rattle.packed.proofs.ReadLaws.{drop-next}
 use Rattle.packed.specs.Ascii.{ascii}
 use Rattle.values.specs.Calendar.{instant}
 use Rattle.values.specs.Spaces.{Kind, unsigned, signed, decimal, currency, sequence, datetime, boolean, string, hex}
-use Rattle.values.specs.Spaces.{is_of_kind, in_space}
+use Rattle.values.specs.Spaces.{is_hex_digit, are_hex_digits, is_of_kind, in_space}
 use Rattle.values.specs.Spaces.{kind_number, unsigned_number, string_number}
 use Rattle.values.specs.ValueOrder.{is_ordered, value_number, value_order, extreme_order}
 use Rattle.values.specs.code.KindNumbers.{kind_of, size_parameter, after_parameter, sign_parameter}
@@ -29,6 +29,24 @@ use Rattle.values.proofs.UnicodeLaws.{low-utf8}
 use Rattle.values.proofs.NumeralLaws.{and_right}
 use Rattle.values.proofs.NumberOrderLaws.{equal-number-equal-bytes}
 use Rattle.values.proofs.InstantLaws.{equal-instant-equal-bytes}
+
+-- ---- hex digits
+
+module _ (v : Text) (i : ℕ) (same : are_hex_digits v ≡ are_hex_digits (drop i v)) where
+  module _ (h : i < length v) {t : Bool} (told : t ≡ is_hex_digit (get_or v i 0)) where
+    hex-step : are_hex_digits (drop i v) ≡ (t && are_hex_digits (drop (i + 1) v))
+    unfolding are_hex_digits
+    hex-step = rw (drop-next v i h, told)
+
+    pub hex-other : t ≡ false → false ≡ are_hex_digits v
+    hex-other e = sym (same ∙ hex-step ∙ rw e)
+
+    pub hex-more : t ≡ true → are_hex_digits v ≡ are_hex_digits (drop (i + 1) v)
+    hex-more e = same ∙ hex-step ∙ rw e
+
+  pub hex-end : length v ≤ i → true ≡ are_hex_digits v
+  unfolding are_hex_digits
+  hex-end h = sym (same ∙ rw (drop_of_length-le v h))
 
 -- ---- two texts, byte by byte
 

@@ -31,10 +31,22 @@ fn is_hex_digit(b: u8) -> bool
     is_digit(b) || matches!(b, b'a'..=b'f')
 }
 
+// By positions: so the compiler takes two bytes a turn, which of an iterator's `all` it does not, and a hex value's space is asked of every byte.
+fn are_hex_digits(v: &[u8]) -> bool
+    ensures { result ≡ are_hex_digits v.now }
+{
+    for i in 0..v.len() {
+        if !is_hex_digit(v[i]) {
+            return false;
+        }
+    }
+    true
+}
+
 fn is_hex(bytes: u8, v: &[u8]) -> bool
     ensures { result ≡ (eqb (length v.now) (2 * bytes) && are_hex_digits v.now) }
 {
-    v.len() == 2 * usize::from(bytes) && v.iter().all(|b| is_hex_digit(*b))
+    v.len() == 2 * usize::from(bytes) && are_hex_digits(v)
 }
 
 fn is_string(most: u8, v: &[u8]) -> bool
