@@ -10,10 +10,12 @@ use std::io::Write;
 fn print_sha1(out: &mut impl Write, message: &[u8]) -> io::Result<()>
     requires { length message.now < 2 ^ 61 }
 {
+    let mut line = [b'\n'; 41];
+    let mut digits: &mut [u8] = &mut line;
     for byte in fips180::sha1(message) {
-        write!(out, "{byte:02x}")?;
+        write!(digits, "{byte:02x}")?;
     }
-    writeln!(out)
+    out.write_all(&line)
 }
 
 // A million times 'a'. A function of its own, so that no other proof holds the bytes.
