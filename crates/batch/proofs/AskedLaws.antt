@@ -1,5 +1,5 @@
 -- The laws of questions 3 to 7 of the events of a batch.
-use mathlib.Core.Path.{◌≡◌, refl, sym, ap, ◌∙◌}
+use mathlib.Core.Path.{◌≡◌, refl, sym, ap, ◌∙◌, subst}
 use mathlib.Core.Bool.{Bool, true, false, ◌&&◌}
 use mathlib.Core.Option.{some}
 use mathlib.Core.Option as model
@@ -20,7 +20,7 @@ use Rattle.replies.specs.declared.reply.Refusal.TheVariants.{Disagreement}
 use Rattle.replies.specs.declared.reply.BatchRefusal.{BatchRefusal}
 use Rattle.ontology.specs.Table.{EventType, Table, type_named}
 use Rattle.ontology.specs.TableLayout.{table_of}
-use Rattle.ontology.specs.code.TypeIndex.{PropertiesAre, TypeIs}
+use Rattle.ontology.specs.code.TypeIndex.{PropertiesAre, TypeIs, TableSays}
 use Rattle.ontology.specs.declared.types.TypeIndex.{TypeIndex}
 use Rattle.event.specs.Event.{Event}
 use Rattle.event.specs.EventLayout.{narrow, event_of}
@@ -33,6 +33,7 @@ use Rattle.event.specs.Agreement.{match_sets, agree}
 use Rattle.batch.specs.Batch.{AskedAt, refused_at, accepted, ◌>>=◌, ◌>>◌, at, events_asked, events_agree, agree_with}
 use Rattle.batch.specs.code.BatchIndex.{BatchIs, events_agreed, events_together, FirstNamed, OneAccepted, OneAnswers, AllAnswers}
 use Rattle.batch.specs.declared.frame.BatchIndex.{BatchIndex}
+use Rattle.std.proofs.Math.Option.{none-ne-some}
 use Rattle.std.proofs.lemmas.Bool.{false≢true}
 use Rattle.std.specs.Option.{is_some}
 use Rattle.std.specs.Prelude.{Option, Some, None, Result, Ok, Err}
@@ -225,6 +226,12 @@ pub record GoesOn
       (ts : Table) (ss : List (List ℕ)) → table_of table ≡ some ts → BatchIs batch ss x →
       events_together ts ss ≡ going_on ts first i apart (drop i ss)
 
+-- the table was read for the name of the first event's type
+module _ {table batch name ps : List ℕ} {x : BatchIndex} {read : Option (Option TypeIndex)} (f : FirstNamed table batch x name read ps) where
+  -- a table that does not read has no events to ask
+  pub none-asked : read ≡ None → (r : Result TypeIndex BatchRefusal) → AnswersEvents table batch x ps r
+  none-asked e r ts ss tb b = absurd (none-ne-some ts (sym (subst (TableSays (table_of table) table name ps) e f.says) ∙ tb))
+
 -- the first event, s, is asked
 module _ {batch s : List ℕ} {x : BatchIndex} (is : IsEvent batch x 0 s) where
   first-asked :
@@ -239,13 +246,13 @@ module _ {batch s : List ℕ} {x : BatchIndex} (is : IsEvent batch x 0 s) where
       rw h (first-refused ts ss (refusal_number q) (omega (arith, b.one, b.count)) (first-asked table _ e ts ss tb b))
 
   pub goes_first :
-      {table : List ℕ} {name : Text} {found : Option TypeIndex} {ps : List ℕ} → FirstNamed table batch x name found ps →
+      {table : List ℕ} {name : Text} {read : Option (Option TypeIndex)} {ps : List ℕ} → FirstNamed table batch x name read ps →
       {ats : List ℕ} {t : TypeIndex} {e : EventIndex} → OneAccepted (event_questions narrow table s) table s ats t e →
       GoesOn table batch x s ats e t ps 1 None
-  goes_first {found = found} f k =
+  goes_first {read = read} f k =
       let w = k.accepted in
       let here = is f.events f.stands (omega (arith, f.stands.one, f.stands.count)) in
-      let y = read-typed narrow _ _ w.what w.is _ _ (Some found) f.says (λ v m. f.named v (ap (event_of narrow) (sym here) ∙ m)) in
+      let y = read-typed narrow _ _ w.what w.is _ _ read f.says (λ v m. f.named v (ap (event_of narrow) (sym here) ∙ m)) in
       record {
         first = w.what;
         taken = first-asked _ _ w.is;

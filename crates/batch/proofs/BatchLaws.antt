@@ -869,7 +869,7 @@ module _
   frame-stands = framed batch reads frame-read
 
   -- the table was read for the name of the first event's type
-  pub first-named : FirstName batch x name → FirstNamed table batch x name found ps
+  pub first-named : FirstName batch x name → FirstNamed table batch x name (Some found) ps
   first-named n = record {
     events = frame-stands.what;
     stands = frame-stands.stands;

@@ -61,20 +61,21 @@ fn ask_one(
     ask_event(event, e, sets, again, &others)
 }
 
-// Questions 3 to 6 of each event in turn, then 7 of each against the first, whose type is answered. Each event is read once, and the table was read for the
-// name of the first one's type.
+// Question 2, then 3 to 6 of each event in turn, then 7 of each against the first, whose type is answered. Each event is read once, and the table was read for
+// the name of the first one's type.
 pub fn ask_events(
     table: &[u8],
     batch: &[u8],
     x: BatchIndex,
     name: &[u8],
-    found: Option<TypeIndex>,
+    read: Option<Option<TypeIndex>>,
     properties: &[usize],
 ) -> Result<TypeIndex, BatchRefusal>
-    requires { FirstNamed table.now batch.now x name.now found properties.now × (length properties.now ≡ 96) }
+    requires { FirstNamed table.now batch.now x name.now read properties.now × (length properties.now ≡ 96) }
     ensures { (ts : Table) (ss : List (List ℕ)) → table_of table.now ≡ some ts → BatchIs batch.now ss x
         → AllAnswers (events_together ts ss) table.now ts ss properties.now result }
 {
+    let found = read.ok_or(Refusal::BadTable)?;
     let head = event_part(batch, x, 0);
     let mut left = [0usize; 96];
     let mut right = [0usize; 96];

@@ -167,7 +167,7 @@ pub fn batch(
     let mut properties = [0usize; 96];
     let found = read_table(table, name, &mut properties).ok_or(Refusal::BadTable)?;
     let x = frame.ok_or(Refusal::BadBatch)?;
-    let t = ask_events(table, batch, x, name, found, &properties)?;
+    let t = ask_events(table, batch, x, name, Some(found), &properties)?;
     let n = combine_all(limits, table, batch, x, t, &properties, out, a, b, c)?;
     Ok(n)
 }

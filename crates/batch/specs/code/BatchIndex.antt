@@ -4,10 +4,8 @@ use Rattle.std.specs.Prelude as std
 use Rattle.std.proofs.Math.Option.{Option, none, some}
 use Rattle.model.specs.Limits.{Limits}
 use Rattle.model.specs.Order.{Text}
-use Rattle.packed.specs.Packed.{part}
 use Rattle.replies.specs.Questions as questions
 use Rattle.replies.specs.Questions.{Asked}
-use Rattle.replies.specs.Answers as answers
 use Rattle.replies.specs.Answers.{Answer, gives, refuses, outcome}
 use Rattle.replies.specs.Replies as replies
 use Rattle.replies.specs.Replies.{refusal_number}
@@ -64,11 +62,11 @@ FirstName batch x name =
     (ss : List (List ℕ)) → BatchIs batch ss x → (e : Event) → event_of narrow (get_or ss 0 []) ≡ some e → name ≡ e.head.type
 
 -- x is the index of a batch, and the table was read for the name that the type of its first event has
-pub record FirstNamed (table batch : List ℕ) (x : BatchIndex) (name : Text) (found : std.Option TypeIndex) (ps : List ℕ) : Type 0 where
+pub record FirstNamed (table batch : List ℕ) (x : BatchIndex) (name : Text) (read : std.Option (std.Option TypeIndex)) (ps : List ℕ) : Type 0 where
   pub events : List (List ℕ)
   pub stands : BatchIs batch events x
   pub named : (e : Event) → event_of narrow (get_or events 0 []) ≡ some e → name ≡ e.head.type
-  pub says : TableSays (table_of table) table name ps (Some found)
+  pub says : TableSays (table_of table) table name ps read
 
 -- an event that was accepted; the numbers of its type's properties are not kept
 pub record OneAccepted (p : Asked Typed) (table event ats : List ℕ) (t : TypeIndex) (e : EventIndex) : Type 0 where

@@ -1,13 +1,16 @@
 -- Each event that is refused ends the loop. After the last, the answer is the position of the first event that does not agree with the first one.
 use Rattle.std.proofs.Common.{rules, arith}
 use Rattle.replies.proofs.RefusalLaws.{passed-on}
-use Rattle.batch.proofs.AskedLaws.{first-refuses, goes_first, next-refuses, goes-past, goes-alike, goes-apart, none-refuses, apart-refuses}
+use Rattle.batch.proofs.AskedLaws.{first-refuses, goes_first, none-asked, next-refuses, goes-past, goes-alike, goes-apart, none-refuses, apart-refuses}
 use Rattle.batch.proofs.asked.ask_events.Goals as goal
 use Rattle.batch.proofs.asked.ask_events.Goals.{then-is_none+then-not-events_agree, else-is_none}
 use Rattle.batch.proofs.asked.ask_events.Goals.{else-is_none-via-then-is_none+else-not-events_agree, else-is_none-via-else-is_none}
 
+pub returns-in_err-found : goal.returns-in_err-found
+returns-in_err-found c = none-asked c.requires.0 c.in_err-found.ensures.ok_part _
+
 pub returns-in_err-t : goal.returns-in_err-t
-returns-in_err-t c = first-refuses c.event_part-head.ensures _ _ (passed-on c.from_residual.ensures.1) c.in_err-t.ensures
+returns-in_err-t c = first-refuses c.event_part-head.ensures _ _ (passed-on c.from_residual-in_err-t.ensures.1) c.in_err-t.ensures
 
 pub loop-i-init : goal.loop-i-init
 loop-i-init c = (search rules, search rules, goes_first c.event_part-head.ensures c.requires.0 c.in_ok-t.ensures)
