@@ -98,16 +98,16 @@ module _ (n i : ℕ) where
   pub refused-length : length (refused_line n i) ≡ 10 + length (in_decimal n) + length (in_decimal i)
   refused-length = ap length refused-is ∙ simp length-append (omega arith)
 
-  -- the number is the refusal's, m
   pub wrote-refused :
-      {m : ℕ} {l a b c d e : List ℕ} {p q r s z : ℕ} → n ≡ m → Wrote l 0 (114 ∷ 101 ∷ 102 ∷ 117 ∷ 115 ∷ 101 ∷ 100 ∷ 32 ∷ []) a p →
+      {l a b c d e : List ℕ} {p q r s z : ℕ} → Wrote l 0 (114 ∷ 101 ∷ 102 ∷ 117 ∷ 115 ∷ 101 ∷ 100 ∷ 32 ∷ []) a p →
       Wrote a p (in_decimal n) b q →
       Wrote b q (32 ∷ []) c r → Wrote c r (in_decimal i) d s → Wrote d s (10 ∷ []) e z →
-      Wrote l 0 (refused_line m i) e z
-  wrote-refused g v w x y u = rw (sym g, refused-is) (wrote-five v w x y u)
+      Wrote l 0 (refused_line n i) e z
+  wrote-refused v w x y u = rw refused-is (wrote-five v w x y u)
 
-  pub refused-fits : {m room : ℕ} → n ≡ m → length (refused_line m i) ≤ room → 10 + length (in_decimal n) + length (in_decimal i) ≤ room
-  refused-fits g h = omega (arith, refused-length, ap (λ (k : ℕ). length (refused_line k i)) g)
+  -- the number is the refusal's, m
+  pub refused-as : {m z : ℕ} {l e : List ℕ} → n ≡ m → Wrote l 0 (refused_line n i) e z → Wrote l 0 (refused_line m i) e z
+  refused-as g w = rw (sym g) w
 
   pub refused-short : length (refused_line n i) ≤ 50
   refused-short = omega (arith, refused-length, decimal-length n, decimal-length i)

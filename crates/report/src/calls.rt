@@ -73,7 +73,7 @@ fn report_opened(table: &[u8], dossier: &[u8], opened: &mut [u8], out: &mut [u8]
             properties_of(table, dossier, &mut properties);
             write_finding(table, &properties, f, out)
         }
-        Err(refusal) => write_refused(refusal, 0, out),
+        Err(refusal) => write_refused(refusal.number(), 0, out),
     }
 }
 
@@ -96,7 +96,7 @@ fn report_batch(table: &[u8], events: &[u8], out: &mut [u8]) -> usize
         &mut c,
     ) {
         Ok(n) => report_opened(table, &dossier[..n], &mut a, out),
-        Err(b) => write_refused(b.refusal, b.position, out),
+        Err(b) => write_refused(b.refusal.number(), b.position, out),
     }
 }
 
@@ -108,10 +108,10 @@ pub fn report(input: &[u8], out: &mut [u8]) -> Result<usize, Refusal>
         return Err(Refusal::SmallBuffer);
     }
     if MOST_INPUT < input.len() {
-        return Ok(write_refused(Refusal::BadBatch, 0, out));
+        return Ok(write_refused(Refusal::BadBatch.number(), 0, out));
     }
     let Some(table) = read_text(input, 0) else {
-        return Ok(write_refused(Refusal::BadBatch, 0, out));
+        return Ok(write_refused(Refusal::BadBatch.number(), 0, out));
     };
     Ok(report_batch(&input[table.start..table.end], &input[table.end..], out))
 }

@@ -2,7 +2,7 @@
 ghost use Rattle.std.specs.Prelude.{◌+◌, ◌*◌, ◌≤◌, ◌<◌, ◌≡◌, [], ◌∷◌, length};
 ghost use Rattle.packed.specs.Packed.{part};
 ghost use Rattle.packed.specs.code.Written.{Wrote};
-ghost use Rattle.replies.specs.Replies.{finding_of, refusal_number};
+ghost use Rattle.replies.specs.Replies.{finding_of};
 ghost use Rattle.ontology.specs.Table.{name_at};
 ghost use Rattle.report.specs.Report.{hex_digit, hex_of, value_line, value_lines, object_lines, hashed_lines};
 ghost use Rattle.report.specs.Report.{conflict_line, overfull_line, finding_line, refused_line};
@@ -13,7 +13,7 @@ use event::sets::{SetAt, set_at};
 use ontology::properties::{PropertyAt, property_at};
 use packed::read::{TextAt, read_text};
 use packed::write::{copy, copy_part};
-use replies::reply::{Finding, Refusal};
+use replies::reply::Finding;
 use values::numerals::write_decimal;
 use values::versions::EventVersion;
 
@@ -45,12 +45,12 @@ fn write_end(out: &mut [u8], at: usize) -> usize
 }
 
 // `refused 7 1`: the number and the position.
-pub fn write_refused(refusal: Refusal, position: usize, out: &mut [u8]) -> usize
-    requires { length (refused_line (refusal_number refusal) position) ≤ length out.old }
-    ensures { Wrote out.old 0 (refused_line (refusal_number refusal) position) out.new result }
+pub fn write_refused(number: u8, position: usize, out: &mut [u8]) -> usize
+    requires { length (refused_line number position) ≤ length out.old }
+    ensures { Wrote out.old 0 (refused_line number position) out.new result }
 {
     let after_word = copy(b"refused ", out, 0);
-    let after_number = write_decimal(refusal.number() as u64, out, after_word);
+    let after_number = write_decimal(number as u64, out, after_word);
     let after_space = copy(b" ", out, after_number);
     let after_position = write_decimal(position as u64, out, after_space);
     write_end(out, after_position)

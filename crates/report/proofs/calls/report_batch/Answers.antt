@@ -1,8 +1,7 @@
 -- The arrays have their room, so the call `batch` answers what the batch comes to. The dossier that it makes opens, and a refusal is a line.
 use Rattle.std.proofs.Common.{arith, sym}
 use Rattle.std.proofs.Math.Seq.{length-take-le}
-use Rattle.replies.specs.Replies.{refusal_number}
-use Rattle.report.proofs.LineLaws.{refused-short}
+use Rattle.report.proofs.LineLaws.{refused-as, refused-short}
 use Rattle.report.proofs.ReportLaws.{BatchDone, batch-done, batch-refused, done-opens, done-lines, refused-lines}
 use Rattle.report.proofs.calls.report_batch.Goals as goal
 use Rattle.report.proofs.calls.report_batch.Goals.{In-Ok}
@@ -20,7 +19,7 @@ pub report_opened-requires : goal.report_opened-requires
 report_opened-requires c = (_, done-opens (done (goal.at.report_opened-requires c).In-Ok) _ c.requires, omega arith)
 
 pub write_refused-requires : goal.write_refused-requires
-write_refused-requires c = omega (arith, refused-short (refusal_number c.in-Err.b.refusal) c.in-Err.b.position)
+write_refused-requires c = omega (arith, refused-short c.number.result c.in-Err.b.position)
 
 pub returns-in-Ok : goal.returns-in-Ok
 returns-in-Ok c =
@@ -31,4 +30,4 @@ pub returns-in-Err : goal.returns-in-Err
 returns-in-Err c =
     refused-lines _ _ _ _
     (batch-refused _ _ _ _ _ (omega arith, omega arith, omega arith, omega arith) c.standard_limits.ensures _ c.in-Err.ensures)
-    c.write_refused.ensures
+    (refused-as _ _ c.number.ensures c.write_refused.ensures)
