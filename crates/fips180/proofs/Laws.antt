@@ -10,7 +10,7 @@ use Rattle.std.specs.Int.{w32, w64, div_ceil, to_be_bytes}
 use native.Mathlib.Nat.{add-sub_cancel_left}
 use borrow.Rule.Slice.PartMut.{put_mid}
 use Rattle.std.proofs.lemmas.Nat.Bits.{same_from_bits_below, bit_at-lt, bit_at_and, bit_at_xor, bit_at_not}
-use lib.Bits.{bit_and, bit_xor, and_lt, xor_lt}
+use lib.Bits.{bit_and, bit_xor, and_le_l, xor_lt}
 use Rattle.fips180.specs.Fips.{HashValue, plus, complement, Ch, zeros, big_endian, padded, block, word_at, W, ROTL, schedule, round, rounds, compressed, hash}
 use Rattle.fips180.specs.Fips.{digest, sha1_of}
 
@@ -177,13 +177,13 @@ pub schedule_high :
     take (t + 1) (set w t v) ≡ schedule m (t + 1)
 schedule_high m w t v high h e ev = schedule-more m w t v h e (ev ∙ W-high m w t high e)
 
--- Ch with one operation less than FIPS 180-4 writes: of each bit, y where x is 1 and z where x is 0
-pub Ch_chosen : (x y z : ℕ) → x < 2 ^ 32 → y < 2 ^ 32 → z < 2 ^ 32 → bit_xor z (bit_and x (bit_xor y z)) ≡ Ch x y z
+-- Ch with one operation less than FIPS 180-4 writes: of each bit, y where x is 1 and z where x is 0. Only those bits of y
+-- count that x has, so y need not be a word.
+pub Ch_chosen : (x y z : ℕ) → x < 2 ^ 32 → z < 2 ^ 32 → bit_xor z (bit_and x (bit_xor y z)) ≡ Ch x y z
 unfolding Ch complement
-Ch_chosen x y z hx hy hz =
-    let and_word : (a b : ℕ) → a < 2 ^ 32 → b < 2 ^ 32 → bit_and a b < 2 ^ 32 = and_lt 32 in
-    let xor_word : (a b : ℕ) → a < 2 ^ 32 → b < 2 ^ 32 → bit_xor a b < 2 ^ 32 = xor_lt 32 in
-    same_from_bits_below 32 _ _ (search (and_word, xor_word, arith)) (search (and_word, xor_word, arith)) (λ i h.
+Ch_chosen x y z hx hz =
+    let and_word : (a b : ℕ) → a < 2 ^ 32 → bit_and a b < 2 ^ 32 = λ a b h. omega (arith, and_le_l a b) in
+    same_from_bits_below 32 _ _ (xor_lt 32 _ _ hz (and_word _ _ hx)) (xor_lt 32 _ _ (and_word _ _ hx) (and_word _ _ (omega arith))) (λ i h.
     simp (bit_at_xor, bit_at_and, bit_at_not w32 x i hx h) (omega (arith, bit_at-lt x i, bit_at-lt y i, bit_at-lt z i)))
 
 plus-rest : (x y : ℕ) → (x % 2 ^ 32 + y) % 2 ^ 32 ≡ (x + y) % 2 ^ 32
