@@ -41,16 +41,17 @@ use Rattle.replies.proofs.CapacityLaws.{has_room_lem}
 use Rattle.replies.proofs.RangeLaws.{in-range}
 use Rattle.ontology.specs.Table.{Property, EventType, Table, is_single, type_named, at_place}
 use Rattle.ontology.specs.TableLayout.{table_of}
-use Rattle.ontology.specs.code.TypeIndex.{PropertiesAre, TableSays}
+use Rattle.ontology.specs.code.TypeIndex.{PropertiesAre, TypeIs, TableSays}
 use Rattle.ontology.specs.declared.types.TypeIndex.{TypeIndex}
 use Rattle.ontology.proofs.TypeIndexLaws.{known-says, type-there}
 use Rattle.event.specs.Event.{Event, type_view, event_view, view}
-use Rattle.event.specs.EventLayout.{wide, event_bytes}
+use Rattle.event.specs.EventLayout.{wide, event_of, event_bytes}
 use Rattle.event.specs.Head.{Head, read_head}
 use Rattle.event.specs.EventQuestions.{Typed, event_asked}
-use Rattle.event.specs.code.EventIndex.{EventIs, EventAccepted, EventAnswers, event_questions}
+use Rattle.event.specs.code.EventIndex.{EventIs, EventReads, event_questions}
 use Rattle.event.specs.declared.read.EventIndex.{EventIndex}
-use Rattle.event.proofs.AskLaws.{accepted-is}
+use Rattle.event.proofs.AskLaws.{read-typed, read-accepted}
+use Rattle.event.proofs.EventLayoutLaws.{event-name}
 use Rattle.event.proofs.EventQuestionLaws.{choice-none}
 use Rattle.dossier.specs.DossierLayout.{dossier_bytes}
 use Rattle.dossier.specs.DossierQuestions.{TypedDossier, dossier_asked}
@@ -71,8 +72,9 @@ use Rattle.report.specs.Report.{report_call}
 use Rattle.report.specs.code.ReportIndex.{NumbersOf, PlaceNamed, LinesRoom, MergedAsked, opens, HasProperty, DossierOpens}
 use Rattle.report.proofs.LineLaws.{refused-short}
 use Rattle.report.proofs.ReportSizeLaws.{merged-short, finding-short}
+use Rattle.std.specs.Option.{IsSome, option_flatten}
 use Rattle.std.specs.Result.{IsOk}
-use Rattle.std.specs.Prelude.{Result, Ok, Err}
+use Rattle.std.specs.Prelude.{Some, Result, Ok, Err}
 use Rattle.std.specs.Prelude as std
 
 -- ---- a merged event
@@ -105,27 +107,36 @@ module _ {table bytes : List ℕ} {t : EventType} {e : Event} {room : ℕ} (m : 
   pub taken : event_questions wide table bytes ≡ questions.accepted asked_so
   taken = rw m.tabled m.asked
 
-  -- the table and the event were read and asked
+  -- the table was read for the name of the event's type
   module _
-      (ps ats : List ℕ) (r : Result (TypeIndex × EventIndex) Refusal)
-      (told : EventAnswers (event_questions wide table bytes) table bytes ps ats r) where
-    pub accepted_as : (x : TypeIndex × EventIndex) → r ≡ Ok x → EventAccepted (event_questions wide table bytes) table bytes ps ats x.0 x.1
-    accepted_as (y, x) is = accepted-is _ table bytes ps ats told is
+      (name ps : List ℕ) (r : std.Option (std.Option TypeIndex)) (says : TableSays (table_of table) table name ps r)
+      (named : (most : ℕ) (h : Head) (rest : List ℕ) → read_head most bytes ≡ got h rest → name ≡ h.type) where
+    typed : (y : TypeIndex) × (option_flatten r ≡ Some y) × TypeIs table t y ps
+    typed = read-typed wide table bytes asked_so taken name ps r says (event-name bytes name named wide)
 
-    -- what the writer of its lines needs
-    abbrev pub lines-ready :
-        {x : TypeIndex × EventIndex} → r ≡ Ok x → {hash : List ℕ} → hash ≡ sha1_of (event_text t e) →
-        LinesRoom table x.0.count ps bytes x.1 ats hash room
-    lines-ready {x} is h =
-        let a = accepted_as x is in
-        let same : a.what ≡ asked_so = accepted-same (sym a.is ∙ taken) in
-        record {
-          type = t;
-          event = e;
-          are = subst (λ (w : Typed). PropertiesAre table w.type.properties x.0.count ps) same a.typed.are;
-          read = subst (λ (w : Typed). EventIs bytes w.event x.1 ats) same a.read;
-          fits = omega (arith, m.fits, ap length (ap (hashed_lines t e) h));
-        }
+    pub type-had : IsSome (option_flatten r)
+    type-had = rw typed.1 refl
+
+    pub type-read : {y : TypeIndex} → option_flatten r ≡ Some y → TypeIs table t y ps
+    type-read {y} f = let same : typed.0 ≡ y = cc (typed.1, f) in subst (λ (z : TypeIndex). TypeIs table t z ps) same typed.2
+
+  -- the event was read
+  module _ (ats : List ℕ) (v : std.Option EventIndex) (reads : EventReads (event_of wide bytes) bytes ats v) where
+    stands : (x : EventIndex) × (v ≡ Some x) × EventIs bytes e x ats
+    stands = read-accepted wide table bytes asked_so taken ats v reads
+
+    pub event-had : IsSome v
+    event-had = rw stands.1 refl
+
+    pub event-read : {x : EventIndex} → v ≡ Some x → EventIs bytes e x ats
+    event-read {x} f = let same : stands.0 ≡ x = cc (stands.1, f) in subst (λ (z : EventIndex). EventIs bytes e z ats) same stands.2
+
+  -- what the writer of its lines needs
+  abbrev pub lines-ready :
+      {y : TypeIndex} {x : EventIndex} {ps ats hash : List ℕ} → TypeIs table t y ps → EventIs bytes e x ats → hash ≡ sha1_of (event_text t e) →
+      LinesRoom table y.count ps bytes x ats hash room
+  lines-ready y x h =
+      record { type = t; event = e; are = y.are; read = x; fits = omega (arith, m.fits, ap length (ap (hashed_lines t e) h)) }
 
   pub lines-merged : {hash out new : List ℕ} {n : ℕ} → hash ≡ sha1_of (event_text t e) → Wrote out 0 (hashed_lines t e hash) new n →
       Wrote out 0 (merged_lines t e) new n

@@ -15,9 +15,8 @@ ghost use Rattle.report.specs.code.ReportIndex.{NumbersOf, MergedAsked, opens, D
 
 use crate::lines::{write_finding, write_merged, write_refused};
 use batch::calls::batch;
-use event::ask::accept;
 use event::head::type_name;
-use event::read::EventCounts;
+use event::read::{EventCounts, read_event};
 use hashing::calls::hash;
 use ontology::tables::read_table;
 use opening::calls::open_dossier;
@@ -46,7 +45,11 @@ fn report_merged(table: &[u8], event: &[u8], out: &mut [u8]) -> usize
     let mut properties = [0usize; 96];
     let mut sets = [0usize; 96];
     hash(table, event, &mut digest).unwrap();
-    let (t, e) = accept(table, event, EventCounts::Wide, &mut properties, &mut sets).unwrap();
+    // that the event is accepted is known, so that its questions are not asked once more
+    let t = read_table(table, type_name(event), &mut properties)
+        .flatten()
+        .unwrap();
+    let e = read_event(event, EventCounts::Wide, &mut sets).unwrap();
     write_merged(table, t.count, &properties, event, e, &sets, &digest, out)
 }
 
