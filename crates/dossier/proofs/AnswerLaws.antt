@@ -12,6 +12,7 @@ use Rattle.model.specs.Rule.{Snapshot}
 use Rattle.model.specs.Limits.{Limits}
 use Rattle.model.proofs.Cases.{and_parts}
 use Rattle.replies.specs.Questions.{Asked, refused, accepted, ◌>>◌, ensure}
+use Rattle.replies.specs.declared.reply.Refusal.{Refusal}
 use Rattle.ontology.specs.Table.{EventType, Table, type_named}
 use Rattle.ontology.specs.TableLayout.{table_of}
 use Rattle.ontology.specs.code.TypeIndex.{TypeSaid, TypeSays, TableSaid}
@@ -22,11 +23,11 @@ use Rattle.event.specs.Agreement.{agree}
 use Rattle.dossier.specs.DossierLayout.{Headed, dossier_of}
 use Rattle.dossier.specs.DossierQuestions.{snapshot_match, dossier_shape, each_snapshot, snapshot_values, TypedDossier, dossier_asked}
 use Rattle.dossier.specs.DossierQuestions.{dossier_match, dossiers_agree}
-use Rattle.dossier.specs.code.DossierIndex.{no_snapshot, DossierStands, DossierReads, shape_asked, dossier_questions, DossierAccepted}
+use Rattle.dossier.specs.code.DossierIndex.{no_snapshot, DossierStands, DossierReads, shape_asked, dossier_questions, DossierAccepted, DossierAnswers}
 use Rattle.dossier.specs.declared.dossiers.DossierIndex.{DossierIndex}
 use Rattle.dossier.proofs.AskLaws.{Each, asked_all}
 use Rattle.dossier.proofs.DossierReadLaws.{dossier-absent, dossier-known}
-use Rattle.std.specs.Prelude.{Some, None}
+use Rattle.std.specs.Prelude.{Some, None, Result}
 use Rattle.std.specs.Prelude as std
 
 -- ---- questions 3 to 6, under a table that was read
@@ -98,24 +99,15 @@ module _
       (h : Headed) → dossier_of limits s ≡ some h → TypeSays (type_named h.head.type said.what) table ps found
   says-typed named h e = subst (λ (n : Text). TypeSays (type_named n said.what) table ps found) (named h e) said.says
 
-  module _ (rows : List ℕ) {r : std.Option DossierIndex} (w : DossierReads (dossier_of limits s) s rows r) where
-    pub questions-layout : r ≡ None → dossier_questions limits table s ≡ refused 3
-    questions-layout h = questions-are ∙ answer-layout limits table said.what s rows w h
-
-    module _ (named : (h : Headed) → dossier_of limits s ≡ some h → name ≡ h.head.type) {d : DossierIndex} (there : r ≡ Some d) where
-      pub questions-type : found ≡ None → dossier_questions limits table s ≡ refused 4
-      questions-type h = questions-are ∙ answer-type limits table said.what s rows w there ps (says-typed named) h
-
-      module _ {t : TypeIndex} (typed : found ≡ Some t) where
-        pub questions-refused :
-            {n : ℕ} → Each s d rows t ps (λ ty ss. refused n ≡ asked_all limits ty ss) → dossier_questions limits table s ≡ refused n
-        questions-refused told = questions-are ∙ answer-refused limits table said.what s rows w there ps (says-typed named) typed said.is told
-
-        pub questions-accepted :
-            Each s d rows t ps (λ ty ss. accepted tt ≡ asked_all limits ty ss) → DossierAccepted (dossier_questions limits table s) table s ps rows t d
-        questions-accepted told =
-            subst (λ (p : Asked TypedDossier). DossierAccepted p table s ps rows t d) (sym questions-are)
-            (answer-accepted limits table said.what s rows w there ps (says-typed named) typed said.is told)
+  -- what questions 3 to 6 answer is the answer
+  pub questions-answered :
+      (rows : List ℕ) (r : Result (TypeIndex × DossierIndex) Refusal) → ((h : Headed) → dossier_of limits s ≡ some h → name ≡ h.head.type) →
+      ((t : List ℕ) (ts : Table) → table_of t ≡ some ts →
+      ((h : Headed) → dossier_of limits s ≡ some h → TypeSays (type_named h.head.type ts) t ps found) →
+      DossierAnswers (dossier_asked limits ts s) t s ps rows r) →
+      DossierAnswers (dossier_questions limits table s) table s ps rows r
+  questions-answered rows r named told =
+      subst (λ (p : Asked TypedDossier). DossierAnswers p table s ps rows r) (sym questions-are) (told table said.what said.is (says-typed named))
 
 -- ---- question 7
 

@@ -1,16 +1,18 @@
-ghost use Rattle.std.specs.Prelude.{ℕ, ◌*◌, ◌≤◌, ◌≡◌, cond, ◌&&◌, ◌||◌, List, length, ltb, eqb, IfOk};
+ghost use Rattle.std.specs.Prelude.{ℕ, ◌*◌, ◌≤◌, ◌≡◌, cond, ◌&&◌, ◌||◌, List, length, ltb, eqb, IfSome, IfOk, Some};
+ghost use Rattle.std.proofs.Math.Option.{some};
 ghost use Rattle.model.specs.Limits.{Permitted};
 ghost use Rattle.model.specs.Order.{Text, sets, lists, equal};
 ghost use Rattle.model.specs.Rule.{Snapshot};
 ghost use Rattle.replies.specs.ChosenLimits.{limits_of};
 ghost use Rattle.replies.specs.Replies.{asked_of};
-ghost use Rattle.ontology.specs.Table.{EventType, is_versioned};
-ghost use Rattle.ontology.specs.code.TypeIndex.{PropertiesAre, TypeIs};
+ghost use Rattle.ontology.specs.Table.{EventType, Table, is_versioned, type_named};
+ghost use Rattle.ontology.specs.TableLayout.{table_of};
+ghost use Rattle.ontology.specs.code.TypeIndex.{PropertiesAre, TypeIs, TypeSays};
 ghost use Rattle.event.specs.code.EventIndex.{SetsAre, KindsAre};
 ghost use Rattle.event.specs.Agreement.{match_sets};
-ghost use Rattle.dossier.specs.DossierLayout.{Headed};
-ghost use Rattle.dossier.specs.DossierQuestions.{snapshot_match, dossier_shape, each_snapshot, snapshot_values, dossiers_agree};
-ghost use Rattle.dossier.specs.code.DossierIndex.{SnapshotIs, RowsAre, MasksAre, snapshot_fits, shape_asked, DossierIs, HasRows};
+ghost use Rattle.dossier.specs.DossierLayout.{Headed, dossier_of};
+ghost use Rattle.dossier.specs.DossierQuestions.{snapshot_match, dossier_shape, each_snapshot, snapshot_values, dossier_asked, dossiers_agree};
+ghost use Rattle.dossier.specs.code.DossierIndex.{SnapshotIs, RowsAre, MasksAre, snapshot_fits, shape_asked, DossierIs, HasRows, DossierReads};
 ghost use Rattle.dossier.specs.code.DossierIndex.{dossier_questions, DossierAnswers};
 
 use crate::dossiers::{DossierIndex, read_dossier};
@@ -109,6 +111,29 @@ pub fn ask_snapshots(
     answer
 }
 
+// Questions 3 to 6 of the dossier s, where it and its type in the table were read: the type and the dossier's index. The table was read for the name of its
+// type, and is read once for all dossiers of that type.
+pub fn ask_dossier(
+    s: &[u8],
+    limits: Limits,
+    d: Option<DossierIndex>,
+    rows: &[usize],
+    found: Option<TypeIndex>,
+    properties: &[usize],
+) -> Result<(TypeIndex, DossierIndex), Refusal>
+    requires count_in_bounds { IfSome d (λ (i : DossierIndex). 96 * i.count ≤ length rows.now) × (length properties.now ≡ 96) }
+    requires dossier_reads { DossierReads (dossier_of (limits_of limits) s.now) s.now rows.now d × IfSome found (λ (t : TypeIndex). t.count ≤ 32) }
+    ensures answers { (table : List ℕ) (ts : Table) → table_of table ≡ some ts
+        → ((h : Headed) → dossier_of (limits_of limits) s.now ≡ some h → TypeSays (type_named h.head.type ts) table properties.now found)
+        → DossierAnswers (dossier_asked (limits_of limits) ts s.now) table s.now properties.now rows.now result }
+    ensures given { IfOk result (λ (x : TypeIndex × DossierIndex). (found ≡ Some x.0) × (d ≡ Some x.1)) }
+{
+    let index = d.ok_or(Refusal::BadInput)?;
+    let t = found.ok_or(Refusal::UnknownType)?;
+    ask_snapshots(s, limits, index, rows, t, properties)?;
+    Ok((t, index))
+}
+
 // A table and a dossier that are read and asked questions 2 to 6: the type, whose properties are lent, and the dossier's index, whose rows are.
 pub fn accept(
     table: &[u8],
@@ -123,10 +148,10 @@ pub fn accept(
     ensures within { IfOk result (λ (x : TypeIndex × DossierIndex). 96 * x.1.count ≤ length rows.old) }
 {
     let found = read_table(table, type_name(s), properties).ok_or(Refusal::BadTable)?;
-    let d = read_dossier(s, limits, rows).ok_or(Refusal::BadInput)?;
-    let t = found.ok_or(Refusal::UnknownType)?;
-    ask_snapshots(s, limits, d, rows, t, properties)?;
-    Ok((t, d))
+    let d = read_dossier(s, limits, rows);
+    // taken apart, so that the index is copied once
+    let (t, index) = ask_dossier(s, limits, d, rows, found, properties)?;
+    Ok((t, index))
 }
 
 // Question 7: whether two dossiers agree in type, source and match sets. The match sets of a dossier are those of its first snapshot.
