@@ -21,9 +21,9 @@ use Rattle.interface.specs.Packing.{low, kinded, packed_refusal, packed_finding,
 use Rattle.std.specs.Prelude.{Result, Ok, Err}
 use Rattle.packed.specs.declared.read.TextAt.{TextAt}
 
-pub refusal_is : {n number : ℕ} (position : ℕ) → n ≡ number → 288230376151711744 + (position % 16777216 * 256 + n) ≡ packed_refusal number position
+pub refusal_is : (number position : ℕ) → 288230376151711744 + (position % 16777216 * 256 + number) ≡ packed_refusal number position
 unfolding packed_refusal kinded
-refusal_is position e = ap (λ (n : ℕ). 288230376151711744 + (position % 16777216 * 256 + n)) e
+refusal_is number position = refl
 
 -- ---- the arms of a reply
 
@@ -39,17 +39,20 @@ done-is {n = n} h e = in-arm packed h (e ∙ sym (zero-add (low n)))
 pub reply-done : {r : Result ℕ Refusal} {n k : ℕ} → r ≡ Ok n → k ≡ low n → k ≡ packed (replied r)
 reply-done h e = done-is (ap replied h) e
 
-pub reply-refused : {r : Result ℕ Refusal} {q : Refusal} {k : ℕ} → r ≡ Err q → k ≡ packed_refusal (refusal_number q) 0 → k ≡ packed (replied r)
+-- n is the number of the refusal
+pub reply-refused :
+    {r : Result ℕ Refusal} {q : Refusal} {n k : ℕ} → r ≡ Err q → n ≡ refusal_number q → k ≡ packed_refusal n 0 → k ≡ packed (replied r)
 unfolding packed_as
-reply-refused h e = in-arm (λ r. packed (replied r)) h e
+reply-refused h g e = in-arm (λ r. packed (replied r)) h (e ∙ ap (λ (m : ℕ). packed_refusal m 0) g)
 
 pub batch-done : {r : Result ℕ BatchRefusal} {n k : ℕ} → r ≡ Ok n → k ≡ low n → k ≡ packed (batch_replied r)
 batch-done h e = done-is (ap batch_replied h) e
 
-pub batch-refused : {r : Result ℕ BatchRefusal} {b : BatchRefusal} {k : ℕ} → r ≡ Err b →
-    k ≡ packed_refusal (refusal_number b.refusal) b.position → k ≡ packed (batch_replied r)
+pub batch-refused :
+    {r : Result ℕ BatchRefusal} {b : BatchRefusal} {n k : ℕ} → r ≡ Err b → n ≡ refusal_number b.refusal → k ≡ packed_refusal n b.position →
+    k ≡ packed (batch_replied r)
 unfolding packed_as
-batch-refused h e = in-arm (λ r. packed (batch_replied r)) h e
+batch-refused {b = b} h g e = in-arm (λ r. packed (batch_replied r)) h (e ∙ ap (λ (m : ℕ). packed_refusal m b.position) g)
 
 -- ---- the arms of what opening finds
 
@@ -82,10 +85,11 @@ pub opened-found : {r : Result Opened Refusal} {o : Opened} {f : Finding} {k : �
 unfolding packed_as
 opened-found h i e = in-arm (λ r. packed_opened (open_replied r)) (h ∙ ap Ok i) e
 
-pub opened-refused : {r : Result Opened Refusal} {q : Refusal} {k : ℕ} → r ≡ Err q → k ≡ packed_refusal (refusal_number q) 0 →
+pub opened-refused :
+    {r : Result Opened Refusal} {q : Refusal} {n k : ℕ} → r ≡ Err q → n ≡ refusal_number q → k ≡ packed_refusal n 0 →
     k ≡ packed_opened (open_replied r)
 unfolding packed_as
-opened-refused h e = in-arm (λ r. packed_opened (open_replied r)) h e
+opened-refused h g e = in-arm (λ r. packed_opened (open_replied r)) h (e ∙ ap (λ (m : ℕ). packed_refusal m 0) g)
 
 -- ---- the event version of a conflict
 

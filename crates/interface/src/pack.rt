@@ -1,6 +1,6 @@
 // The numbers that replies are packed into.
 ghost use Rattle.std.specs.Prelude.{◌≡◌};
-ghost use Rattle.replies.specs.Replies.{refusal_number, replied, finding_of, open_replied, batch_replied};
+ghost use Rattle.replies.specs.Replies.{replied, finding_of, open_replied, batch_replied};
 ghost use Rattle.interface.specs.Packing.{low, packed_refusal, packed_finding, packed, packed_opened};
 
 use replies::reply::{BatchRefusal, Finding, Opened, Refusal};
@@ -12,11 +12,11 @@ fn low_bits(n: u64) -> u64
     n % 4294967296
 }
 
-// A refusal: the kind 4, the number of the question, and the position of the event that was asked.
-fn pack_refusal(refusal: Refusal, position: usize) -> u64
-    ensures { result ≡ packed_refusal (refusal_number refusal) position }
+// A refusal by a number: the kind 4, the number of the question, and the position of the event that was asked.
+pub fn pack_refusal(number: u8, position: usize) -> u64
+    ensures { result ≡ packed_refusal number position }
 {
-    288230376151711744 + (position as u64 % 16777216 * 256 + refusal.number() as u64)
+    288230376151711744 + (position as u64 % 16777216 * 256 + number as u64)
 }
 
 // A call that is done or refused.
@@ -25,7 +25,7 @@ pub fn pack_reply(r: Result<usize, Refusal>) -> u64
 {
     match r {
         Ok(n) => low_bits(n as u64),
-        Err(refusal) => pack_refusal(refusal, 0),
+        Err(refusal) => pack_refusal(refusal.number(), 0),
     }
 }
 
@@ -35,7 +35,7 @@ pub fn pack_batch(r: Result<usize, BatchRefusal>) -> u64
 {
     match r {
         Ok(n) => low_bits(n as u64),
-        Err(b) => pack_refusal(b.refusal, b.position),
+        Err(b) => pack_refusal(b.refusal.number(), b.position),
     }
 }
 
@@ -56,6 +56,6 @@ pub fn pack_opened(r: Result<Opened, Refusal>) -> u64
     match r {
         Ok(Opened::Merged(n)) => 72057594037927936 + low_bits(n as u64),
         Ok(Opened::Found(f)) => pack_finding(f),
-        Err(refusal) => pack_refusal(refusal, 0),
+        Err(refusal) => pack_refusal(refusal.number(), 0),
     }
 }

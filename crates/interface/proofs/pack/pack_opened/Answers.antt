@@ -16,4 +16,4 @@ returns-in-Ok-Found c =
     opened-found o.is is c.pack_finding.ensures
 
 pub returns-in-Err : goal.returns-in-Err
-returns-in-Err c = opened-refused c.in-Err.is c.pack_refusal.ensures
+returns-in-Err c = opened-refused c.in-Err.is c.number.ensures c.pack_refusal.ensures

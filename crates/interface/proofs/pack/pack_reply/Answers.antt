@@ -5,4 +5,4 @@ pub returns-in-Ok : goal.returns-in-Ok
 returns-in-Ok c = reply-done c.in-Ok.is c.low_bits.ensures
 
 pub returns-in-Err : goal.returns-in-Err
-returns-in-Err c = reply-refused c.in-Err.is c.pack_refusal.ensures
+returns-in-Err c = reply-refused c.in-Err.is c.number.ensures c.pack_refusal.ensures
