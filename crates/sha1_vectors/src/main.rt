@@ -7,6 +7,7 @@ ghost use Rattle.std.specs.Prelude.{◌^◌, ◌<◌, length};
 use std::io;
 use std::io::Write;
 
+// A line is put together first and written by one call, since the writer has no buffer: no reader meets a part of one.
 fn print_sha1(out: &mut impl Write, message: &[u8]) -> io::Result<()>
     requires { length message.now < 2 ^ 61 }
 {
